@@ -1,0 +1,3 @@
+mod Decodable
+mod Decoded
+mod Placing

@@ -1,0 +1,10 @@
+pub mod Fields
+pub mod Header
+pub mod Instructions
+pub mod Layout
+pub mod Loading
+pub mod Parts
+pub mod Reading
+pub mod Records
+pub mod Refusals
+pub mod Tables
