@@ -1,3 +1,4 @@
 mod Decodable
 mod Decoded
+mod Loaded
 mod Placing

@@ -1,6 +1,7 @@
 pub mod Fields
 pub mod Header
 pub mod Instructions
+pub mod Lawful
 pub mod Layout
 pub mod Loading
 pub mod Parts

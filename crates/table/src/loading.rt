@@ -4,6 +4,7 @@ ghost use Prim.Native.Nat.{_+_, _≤_};
 ghost use lib.ListN.{length};
 ghost use Rattle.std.specs.declared.result.Result.the-variants.{Ok};
 ghost use Rattle.table.specs.Header.{ending, placing};
+ghost use Rattle.table.specs.Lawful.{Loaded};
 ghost use Rattle.table.specs.Loading.{decodable, loading};
 ghost use Rattle.table.specs.Parts.{cutting, part};
 ghost use Rattle.table.specs.Reading.{instructionCount};
@@ -60,7 +61,8 @@ impl Table<'_> {
 }
 
 pub fn load(bytes: &[u8]) -> Result<Table<'_>, Refusal>
-    ensures { λ r. ⌜ answered r ≡ loading (now (bytes .entry)) ⌝ }
+    ensures value { λ r. ⌜ answered r ≡ loading (now (bytes .entry)) ⌝ }
+    ensures law { λ r. ⌜ Loaded (now (bytes .entry)) (answered r) ⌝ }
 {
     sized(bytes.len())?;
     let layout = Layout::read(bytes);
