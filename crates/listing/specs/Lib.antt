@@ -1,0 +1,3 @@
+pub mod Names
+pub mod Columns
+pub mod Lines
