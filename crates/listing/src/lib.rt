@@ -1,3 +1,5 @@
 pub mod names;
 pub mod columns;
 pub mod lines;
+pub mod explained;
+pub mod reports;
