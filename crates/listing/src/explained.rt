@@ -64,21 +64,30 @@ fn field_range(field: Field) -> &'static str
 fn size(heap: Global, bytes: usize) -> Result<String, AllocError>
     ensures { λ r. ⌜ made r (λ s. string-bytes s ≡ sizeText bytes) ⌝ }
 {
-    format!(heap, "refused 1: the table has {bytes} bytes; expected 48 to 65536")
+    format!(
+        heap,
+        "refused 1: the table has {bytes} bytes; expected 48 to 65536"
+    )
 }
 
 fn begins(heap: Global, part: Part, offset: usize, earliest: usize) -> Result<String, AllocError>
     ensures { λ r. ⌜ made r (λ s. string-bytes s ≡ beginsText part offset earliest) ⌝ }
 {
     let part = part_name(part);
-    format!(heap, "refused 2: the {part} begin at byte {offset}; expected byte {earliest} or later")
+    format!(
+        heap,
+        "refused 2: the {part} begin at byte {offset}; expected byte {earliest} or later"
+    )
 }
 
 fn ends(heap: Global, part: Part, end: usize, bytes: usize) -> Result<String, AllocError>
     ensures { λ r. ⌜ made r (λ s. string-bytes s ≡ endsText part end bytes) ⌝ }
 {
     let part = part_name(part);
-    format!(heap, "refused 2: the {part} end at byte {end}; expected {bytes} at most, where the table ends")
+    format!(
+        heap,
+        "refused 2: the {part} end at byte {end}; expected {bytes} at most, where the table ends"
+    )
 }
 
 fn number(heap: Global, field: Field, found: u16) -> Result<String, AllocError>
@@ -94,14 +103,20 @@ fn records(heap: Global, part: Part, length: u32) -> Result<String, AllocError>
 {
     let name = part_name(part);
     let expected = expected_records(part);
-    format!(heap, "refused 3: the {name} take {length} bytes; expected {expected}")
+    format!(
+        heap,
+        "refused 3: the {name} take {length} bytes; expected {expected}"
+    )
 }
 
 fn uneven(heap: Global, part: Part, length: u32, expected: u32) -> Result<String, AllocError>
     ensures { λ r. ⌜ made r (λ s. string-bytes s ≡ unevenText part length expected) ⌝ }
 {
     let name = part_name(part);
-    format!(heap, "refused 3: the {name} take {length} bytes; expected {expected}, 4 for each instruction")
+    format!(
+        heap,
+        "refused 3: the {name} take {length} bytes; expected {expected}, 4 for each instruction"
+    )
 }
 
 fn expected_operands(heap: Global, operand: Operand, limits: Limits) -> Result<String, AllocError>
@@ -114,10 +129,16 @@ fn expected_operands(heap: Global, operand: Operand, limits: Limits) -> Result<S
     } = limits;
     match operand {
         Operand::Nothing => format!(heap, "x 0 and y 0"),
-        Operand::Constant(_) => format!(heap, "x 0 and a y below {constants}, the number of constants"),
+        Operand::Constant(_) => format!(
+            heap,
+            "x 0 and a y below {constants}, the number of constants"
+        ),
         Operand::Local(_) => format!(heap, "x 0 and a y below {locals}, the number of locals"),
         Operand::Count(_) => format!(heap, "x 0 and a y of at most 255"),
-        Operand::Target(_) => format!(heap, "x 0 and a y below {instructions}, the number of instructions"),
+        Operand::Target(_) => format!(
+            heap,
+            "x 0 and a y below {instructions}, the number of instructions"
+        ),
         Operand::Flag(_) => format!(heap, "an x of 0 or 1 and y 0"),
     }
 }
@@ -125,16 +146,28 @@ fn expected_operands(heap: Global, operand: Operand, limits: Limits) -> Result<S
 fn unknown(heap: Global, at: usize, opcode: u8) -> Result<String, AllocError>
     ensures { λ r. ⌜ made r (λ s. string-bytes s ≡ unknownText at opcode) ⌝ }
 {
-    format!(heap, "refused 4 at instruction {at}: there is no opcode {opcode}")
+    format!(
+        heap,
+        "refused 4 at instruction {at}: there is no opcode {opcode}"
+    )
 }
 
-fn known_word(heap: Global, at: usize, word: Word, limits: Limits, example: Instruction) -> Result<String, AllocError>
+fn known_word(
+    heap: Global,
+    at: usize,
+    word: Word,
+    limits: Limits,
+    example: Instruction,
+) -> Result<String, AllocError>
     ensures { λ r. ⌜ made r (λ s. string-bytes s ≡ knownText at word limits example) ⌝ }
 {
     let name = name(example);
     let expected = expected_operands(heap, operand_of(example), limits)?;
     let Word { x, y, .. } = word;
-    format!(heap, "refused 4 at instruction {at} ({name}): x is {x} and y is {y}; expected {expected}")
+    format!(
+        heap,
+        "refused 4 at instruction {at} ({name}): x is {x} and y is {y}; expected {expected}"
+    )
 }
 
 // Some instruction of the opcode, if there is one.

@@ -1,5 +1,5 @@
-pub mod names;
 pub mod columns;
-pub mod lines;
 pub mod explained;
+pub mod lines;
+pub mod names;
 pub mod reports;

@@ -43,10 +43,18 @@ fn sizes(heap: Global, maximum: u16, locals: usize) -> Result<String, AllocError
     format!(heap, "maximum depth {maximum}, locals {locals}\n")
 }
 
-fn counts(heap: Global, instructions: usize, nodes: usize, constants: usize) -> Result<String, AllocError>
+fn counts(
+    heap: Global,
+    instructions: usize,
+    nodes: usize,
+    constants: usize,
+) -> Result<String, AllocError>
     ensures { λ r. ⌜ made r (λ s. string-bytes s ≡ countsText instructions nodes constants) ⌝ }
 {
-    format!(heap, "instructions {instructions}, nodes {nodes}, constants {constants}\n")
+    format!(
+        heap,
+        "instructions {instructions}, nodes {nodes}, constants {constants}\n"
+    )
 }
 
 fn titles() -> &'static str
@@ -59,12 +67,23 @@ fn head(heap: Global, table: &Table) -> Result<String, AllocError>
     ensures { λ r. ⌜ made r (λ s. string-bytes s ≡ headText (parts (now (table .entry)))) ⌝ }
 {
     let sizes = sizes(heap, table.maximum_depth(), table.locals())?;
-    let counts = counts(heap, table.instruction_count(), table.node_count(), table.constant_count())?;
+    let counts = counts(
+        heap,
+        table.instruction_count(),
+        table.node_count(),
+        table.constant_count(),
+    )?;
     let titles = titles();
     format!(heap, "{sizes}{counts}{titles}")
 }
 
-fn line_of(heap: Global, i: usize, row: u32, instruction: Instruction, shape: Shape) -> Result<String, AllocError>
+fn line_of(
+    heap: Global,
+    i: usize,
+    row: u32,
+    instruction: Instruction,
+    shape: Shape,
+) -> Result<String, AllocError>
     ensures { λ r. ⌜ made r (λ s. string-bytes s ≡ lineText i row instruction shape) ⌝ }
 {
     let index = number(heap, 5, i)?;

@@ -67,8 +67,12 @@ pub fn operand_of(instruction: Instruction) -> Operand
         Instruction::SetupFinally { handler } => Operand::Target(handler),
         Instruction::EnterFinally { end } => Operand::Flag(end),
         Instruction::SetupWith { end } => Operand::Target(end),
-        Instruction::Raise { kind: RaiseKind::Reraise } => Operand::Flag(0),
-        Instruction::Raise { kind: RaiseKind::Raise } => Operand::Flag(1),
+        Instruction::Raise {
+            kind: RaiseKind::Reraise,
+        } => Operand::Flag(0),
+        Instruction::Raise {
+            kind: RaiseKind::Raise,
+        } => Operand::Flag(1),
         Instruction::Break { target } => Operand::Target(target),
         Instruction::Continue { target } => Operand::Target(target),
         Instruction::ReturnConst { idx } => Operand::Constant(idx),
