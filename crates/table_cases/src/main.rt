@@ -1,6 +1,7 @@
 // A program for tests: each line of standard input names a case and gives the bytes of a table;
-// it prints what load answers. It rests on the crate table. The lines are written by tools/table_cases.py,
-// which also writes what is expected.
+// it prints what load answers, and for a refusal also its words. It rests on the crates table and listing.
+// The lines are written by tools/table_cases.py, which also writes what is expected.
+use listing::explained::explain;
 use std::alloc::AllocError;
 use std::alloc::Global;
 use std::io;
@@ -54,9 +55,11 @@ fn answer(heap: Global, line: &str) -> Result<String, AllocError> {
         Ok(_) => format!(heap, "{name}: loaded"),
         Err(refusal) => {
             let number = refusal.number();
-            match refusal.place() {
-                Some(place) => format!(heap, "{name}: refused {number} at {place}"),
-                None => format!(heap, "{name}: refused {number}"),
+            let place = refusal.place();
+            let words = explain(heap, refusal)?;
+            match place {
+                Some(place) => format!(heap, "{name}: {number} at {place}: {words}"),
+                None => format!(heap, "{name}: {number}: {words}"),
             }
         }
     }
