@@ -1,5 +1,5 @@
-pub mod Names
 pub mod Columns
-pub mod Lines
 pub mod Explained
+pub mod Lines
+pub mod Names
 pub mod Reports

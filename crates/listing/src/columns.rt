@@ -6,7 +6,7 @@ ghost use Rattle.listing.specs.Columns.{blank, left, number, right};
 use std::alloc::AllocError;
 use std::alloc::Global;
 
-pub fn blank(heap: Global, width: usize) -> Result<String, AllocError>
+pub(crate) fn blank(heap: Global, width: usize) -> Result<String, AllocError>
     ensures { λ r. ⌜ made r (λ s. string-bytes s ≡ blank width) ⌝ }
 {
     let mut text = String::new(heap);
@@ -17,7 +17,7 @@ pub fn blank(heap: Global, width: usize) -> Result<String, AllocError>
 }
 
 // At the left of a column.
-pub fn left(heap: Global, width: usize, text: &str) -> Result<String, AllocError>
+pub(crate) fn left(heap: Global, width: usize, text: &str) -> Result<String, AllocError>
     ensures { λ r. ⌜ made r (λ s. string-bytes s ≡ left width (now (text .entry))) ⌝ }
 {
     let space = blank(heap, width.saturating_sub(text.len()))?;
@@ -25,7 +25,7 @@ pub fn left(heap: Global, width: usize, text: &str) -> Result<String, AllocError
 }
 
 // At the right of a column.
-pub fn right(heap: Global, width: usize, text: &str) -> Result<String, AllocError>
+pub(crate) fn right(heap: Global, width: usize, text: &str) -> Result<String, AllocError>
     ensures { λ r. ⌜ made r (λ s. string-bytes s ≡ right width (now (text .entry))) ⌝ }
 {
     let space = blank(heap, width.saturating_sub(text.len()))?;
@@ -33,7 +33,7 @@ pub fn right(heap: Global, width: usize, text: &str) -> Result<String, AllocErro
 }
 
 // A number at the right of a column.
-pub fn number(heap: Global, width: usize, n: usize) -> Result<String, AllocError>
+pub(crate) fn number(heap: Global, width: usize, n: usize) -> Result<String, AllocError>
     ensures { λ r. ⌜ made r (λ s. string-bytes s ≡ number width n) ⌝ }
 {
     let text = format!(heap, "{n}")?;
