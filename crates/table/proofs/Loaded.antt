@@ -16,10 +16,11 @@ use Rattle.std.specs.declared.result.Result.{Result}
 use Rattle.std.specs.declared.result.Result.the-variants.{Ok, Err}
 use Rattle.table.specs.Header.{_then_, counted, matched, measured, numbered, placed, placing, sized}
 use Rattle.table.specs.Instructions.{Decoded, decoding}
-use Rattle.table.specs.Lawful.{Encoded, First, InOrder, Lawful, Loaded, Placed, Whole, spans}
+use Rattle.table.specs.Lawful.{Blamed, Encoded, First, Headed, InOrder, Lawful, Loaded, Ordered, Placed, Sized, Whole, spans}
 use Rattle.table.specs.Layout.{layoutOf}
 use Rattle.table.specs.Loading.{decodable, loading}
 use Rattle.table.specs.Parts.{Parts, partsOf}
+use Rattle.table.specs.Refusals.{numberOf}
 use Rattle.table.specs.Reading.{instructionCount, limitsOf, wordAt}
 use Rattle.table.specs.declared.instructions.Instruction.{Instruction as Op}
 use Rattle.table.specs.declared.instructions.Limits.{Limits}
@@ -28,7 +29,7 @@ use Rattle.table.specs.declared.layout.Layout.{Layout}
 use Rattle.table.specs.declared.layout.Span.{Span}
 use Rattle.table.specs.declared.refusals.Part.{Part}
 use Rattle.table.specs.declared.refusals.Refusal.{Refusal}
-use Rattle.table.specs.declared.refusals.Refusal.the-variants.{Instruction}
+use Rattle.table.specs.declared.refusals.Refusal.the-variants.{Size, Begins, Ends, Number, Records, Uneven, Instruction}
 use Rattle.table.proofs.Decoded.{decoded}
 use Rattle.table.proofs.Placing.{placing-says, then-ok}
 
@@ -57,7 +58,7 @@ counted-pass part size least most s h =
     rw (h .1) (grind (arith, tells))
 
 -- the header's numbers
-pub record Numbers (l : Layout) : Type 0 where
+record Numbers (l : Layout) : Type 0 where
   pub maximum : (1 ≤ l .maximum) × (l .maximum ≤ 256)
   pub locals : l .locals ≤ 64
   pub zero : l .zero ≡ 0
@@ -72,7 +73,7 @@ unfolding numbered
 numbered-pass l h = grind (arith, tells)
 
 -- the parts' lengths
-pub record Lengths (l : Layout) : Type 0 where
+record Lengths (l : Layout) : Type 0 where
   pub instructions : Whole 4 1 4096 (l .instructions .length)
   pub shapes : l .shapes .length ≡ l .instructions .length
   pub nodes : Whole 8 0 1024 (l .nodes .length)
@@ -152,14 +153,6 @@ walked t i (suc n) =
     walk-step t i n (isSome (decoding (limitsOf t) (wordAt t i))) (decodable t (i + 1) n)
     (some-encoded (limitsOf t) (wordAt t i) _ d) (encoded-some (limitsOf t) (wordAt t i) _ d) (walked t (i + 1) n)
 
-walk-says : (t : Parts) (n : ℕ) → decodable t 0 n ≡ Ok tt → (k : ℕ) → k < n → Encoded (limitsOf t) (wordAt t k)
-unfolding Fine
-walk-says t n h k l = subst (Walked t 0 n) h (walked t 0 n) k (omega arith) (omega arith)
-
-walk-pass : (t : Parts) (n : ℕ) (r : Result Unit Refusal) → Walked t 0 n r → ((k : ℕ) → k < n → Fine t k) → r ≡ Ok tt
-walk-pass t n (Ok u) w f = refl
-walk-pass t n (Err e) w f = absurd (w .4 (f (w .0) (omega arith)))
-
 walk-first : (t : Parts) (e : Refusal) → Walked t 0 (instructionCount t) (Err e) → Placed t e
 unfolding Fine
 walk-first t e w = subst (Placed t) (sym (w .3)) (record { inside = omega arith; wrong = w .4; before = λ k l. w .5 k (omega arith) l })
@@ -171,90 +164,158 @@ sized-says bytes h = grind (arith, tells)
 sized-pass : (bytes : ℕ) → (48 ≤ bytes) × (bytes ≤ 65536) → sized bytes ≡ Ok tt
 sized-pass bytes h = grind (arith, tells)
 
--- all the tests
-says : (b : List ℕ) (t : Parts) → loading b ≡ Ok t → Lawful b
-unfolding loading
-says b t h =
-    let p = then-ok _ _ t h in
-    let q = then-ok _ _ t (p .1) in
-    let r = then-ok _ _ t (q .1) in
-    let s = then-ok _ _ t (r .1) in
-    let d = then-ok (decodable (partsOf b) 0 (instructionCount (partsOf b))) (Ok (partsOf b)) t (s .1) in
-    let n = numbered-says (layoutOf b) (r .0) in
-    let l = measured-says (layoutOf b) (s .0) in
+-- the header
+header-says : (l : Layout) → numbered l ≡ Ok tt → measured l ≡ Ok tt → Headed l
+header-says l h k =
+    let n = numbered-says l h in
+    let m = measured-says l k in
     record {
-      size = sized-says (length b) (p .0);
-      places = places-says (length b) (layoutOf b) (q .0);
       maximum = n .maximum;
       locals = n .locals;
       zero = n .zero;
       pairs = n .pairs;
-      instructions = l .instructions;
-      shapes = l .shapes;
-      nodes = l .nodes;
-      constants = l .constants;
-      rows = l .rows;
-      decodes = walk-says (partsOf b) (instructionCount (partsOf b)) (d .0);
+      instructions = m .instructions;
+      shapes = m .shapes;
+      nodes = m .nodes;
+      constants = m .constants;
+      rows = m .rows;
     }
 
-passes : (b : List ℕ) → Lawful b → loading b ≡ Ok (partsOf b)
-unfolding loading Fine
-passes b l =
-    then-pass _ _ (partsOf b) (sized-pass (length b) (l .size)) (
-    then-pass _ _ (partsOf b) (places-pass (length b) (layoutOf b) (l .places)) (
-    then-pass _ _ (partsOf b) (numbered-pass (layoutOf b) (record { maximum = l .maximum; locals = l .locals; zero = l .zero; pairs = l .pairs })) (
-    then-pass _ _ (partsOf b) (measured-pass (layoutOf b) (record { instructions = l .instructions; shapes = l .shapes; nodes = l .nodes; constants = l .constants; rows = l .rows })) (
-    then-pass _ _ (partsOf b) (walk-pass (partsOf b) (instructionCount (partsOf b)) _ (walked (partsOf b) 0 (instructionCount (partsOf b))) (l .decodes)) refl))))
+numbers-pass : (l : Layout) → Headed l → numbered l ≡ Ok tt
+numbers-pass l h = numbered-pass l (record { maximum = h .maximum; locals = h .locals; zero = h .zero; pairs = h .pairs })
 
--- only the walk over the instructions gives a refusal with a place
-unfoldable Places-of : {A : Type 0} → Parts → Result A Refusal → Type 0
-Places-of t (Ok a) = Unit {0}
-Places-of t (Err e) = Placed t e
+lengths-pass : (l : Layout) → Headed l → measured l ≡ Ok tt
+lengths-pass l h =
+    measured-pass l (record { instructions = h .instructions; shapes = h .shapes; nodes = h .nodes; constants = h .constants; rows = h .rows })
 
-then-places : {A : Type 0} (t : Parts) (r : Result Unit Refusal) (s : Result A Refusal) → Places-of t r → Places-of t s → Places-of t (r then s)
-unfolding Places-of
-then-places t (Ok u) s p q = q
-then-places t (Err e) s p q = p
+-- the number of each test's refusals
+unfoldable Numbered : ℕ → Result Unit Refusal → Type 0
+Numbered k (Ok u) = Unit {0}
+Numbered k (Err e) = numberOf e ≡ k
 
-sized-places : (t : Parts) (bytes : ℕ) → Places-of t (sized bytes)
-unfolding Places-of
-sized-places t bytes = grind arith
+sized-number : (bytes : ℕ) → Numbered 1 (sized bytes)
+unfolding Numbered
+sized-number bytes = grind arith
 
-placing-places : (t : Parts) (bytes : ℕ) (l : Layout) → Places-of t (placing bytes l)
-unfolding placing Places-of
-placing-places t bytes l = grind arith
+placing-number : (bytes : ℕ) (l : Layout) → Numbered 2 (placing bytes l)
+unfolding placing Numbered
+placing-number bytes l = grind arith
 
-numbered-places : (t : Parts) (l : Layout) → Places-of t (numbered l)
-unfolding numbered Places-of
-numbered-places t l = grind arith
+numbered-number : (l : Layout) → Numbered 3 (numbered l)
+unfolding numbered Numbered
+numbered-number l = grind arith
 
-measured-places : (t : Parts) (l : Layout) → Places-of t (measured l)
-unfolding measured Places-of
-measured-places t l = grind arith
+measured-number : (l : Layout) → Numbered 3 (measured l)
+unfolding measured Numbered
+measured-number l = grind arith
 
-walk-places : (t : Parts) (r : Result Unit Refusal) → Walked t 0 (instructionCount t) r → Places-of t r
-unfolding Places-of
-walk-places t (Ok u) w = tt
-walk-places t (Err e) w = walk-first t e w
+-- only the instructions' refusals have a place
+unplaced : (t : Parts) (e : Refusal) → numberOf e < 4 → Placed t e
+unplaced t (Size bytes) h = tt
+unplaced t (Begins part offset earliest) h = tt
+unplaced t (Ends part end bytes) h = tt
+unplaced t (Number field found) h = tt
+unplaced t (Records part length) h = tt
+unplaced t (Uneven part length expected) h = tt
+unplaced t (Instruction at word limits) h = absurd (omega arith)
 
-table-places : (t : Parts) → Places-of {A = Parts} t (Ok t)
-unfolding Places-of
-table-places t = tt
+-- what a failed test says of its fact
+fails : {F : Type 0} (r : Result Unit Refusal) (e : Refusal) → (F → r ≡ Ok tt) → r ≡ Err e → F → ⊥
+fails r e pass h f = let o = pass f in let z : _≡_ {A = ℕ} 0 1 = cc in omega arith
 
-loading-places : (b : List ℕ) → Places-of (partsOf b) (loading b)
+-- a law of what comes after a test, which may use what the test says
+abbrev Law : List ℕ → Result Parts Refusal → Type 0
+Law b (Ok t) = Lawful b
+Law b (Err e) = Blamed b e
+
+then-law : (b : List ℕ) (r : Result Unit Refusal) (s : Result Parts Refusal) → ((e : Refusal) → r ≡ Err e → Blamed b e) → (r ≡ Ok tt → Law b s) → Law b (r then s)
+then-law b (Ok u) s f g = g refl
+then-law b (Err e) s f g = f e refl
+
+-- the number, where a test failed
+number-of : (k : ℕ) (r : Result Unit Refusal) (e : Refusal) → Numbered k r → r ≡ Err e → numberOf e ≡ k
+unfolding Numbered
+number-of k r e n h = subst (Numbered k) h n
+
+blame-size : (b : List ℕ) (e : Refusal) → sized (length b) ≡ Err e → Blamed b e
+blame-size b e h =
+    let n = number-of 1 (sized (length b)) e (sized-number (length b)) h in
+    record {
+      size = λ k. fails (sized (length b)) e (sized-pass (length b)) h;
+      sized = λ k. absurd (omega arith);
+      place = λ k. absurd (omega arith);
+      placed = λ k. absurd (omega arith);
+      header = λ k. absurd (omega arith);
+      headed = λ k. absurd (omega arith);
+      first = unplaced (partsOf b) e (omega arith);
+    }
+
+blame-place : (b : List ℕ) (e : Refusal) → Sized b → placing (length b) (layoutOf b) ≡ Err e → Blamed b e
+blame-place b e s h =
+    let n = number-of 2 (placing (length b) (layoutOf b)) e (placing-number (length b) (layoutOf b)) h in
+    record {
+      size = λ k. absurd (omega arith);
+      sized = λ k. s;
+      place = λ k. fails (placing (length b) (layoutOf b)) e (places-pass (length b) (layoutOf b)) h;
+      placed = λ k. absurd (omega arith);
+      header = λ k. absurd (omega arith);
+      headed = λ k. absurd (omega arith);
+      first = unplaced (partsOf b) e (omega arith);
+    }
+
+blame-header : (b : List ℕ) (e : Refusal) → Sized b → Ordered b → numberOf e ≡ 3 → (Headed (layoutOf b) → ⊥) → Blamed b e
+blame-header b e s o n f =
+    record {
+      size = λ k. absurd (omega arith);
+      sized = λ k. s;
+      place = λ k. absurd (omega arith);
+      placed = λ k. o;
+      header = λ k. f;
+      headed = λ k. absurd (omega arith);
+      first = unplaced (partsOf b) e (omega arith);
+    }
+
+blame-word : (b : List ℕ) (e : Refusal) → Sized b → Ordered b → Headed (layoutOf b) → numberOf e ≡ 4 → Placed (partsOf b) e → Blamed b e
+blame-word b e s o d n p =
+    record {
+      size = λ k. absurd (omega arith);
+      sized = λ k. s;
+      place = λ k. absurd (omega arith);
+      placed = λ k. o;
+      header = λ k. absurd (omega arith);
+      headed = λ k. d;
+      first = p;
+    }
+
+-- the walk, where all else is fine
+walk-law : (b : List ℕ) (r : Result Unit Refusal) → Sized b → Ordered b → Headed (layoutOf b) → Walked (partsOf b) 0 (instructionCount (partsOf b)) r → Law b (r then Ok (partsOf b))
+unfolding Fine
+walk-law b (Ok u) s o d w = record { size = s; places = o; header = d; decodes = λ i l. w i (omega arith) (omega arith) }
+walk-law b (Err e) s o d w = blame-word b e s o d (ap numberOf (w .3)) (walk-first (partsOf b) e w)
+
+loading-law : (b : List ℕ) → Law b (loading b)
 unfolding loading
-loading-places b =
-    let t : Parts = partsOf b in
-    then-places t _ _ (sized-places t (length b)) (
-    then-places t _ _ (placing-places t (length b) (layoutOf b)) (
-    then-places t _ _ (numbered-places t (layoutOf b)) (
-    then-places t _ _ (measured-places t (layoutOf b)) (
-    then-places t _ _ (walk-places t _ (walked t 0 (instructionCount t))) (table-places t)))))
+loading-law b =
+    let l : Layout = layoutOf b in
+    then-law b _ _ (blame-size b) (λ p. let s = sized-says (length b) p in
+    then-law b _ _ (λ e. blame-place b e s) (λ q. let o = places-says (length b) l q in
+    then-law b _ _ (λ e h. blame-header b e s o (number-of 3 (numbered l) e (numbered-number l) h) (fails (numbered l) e (numbers-pass l) h)) (λ n.
+    then-law b _ _ (λ e h. blame-header b e s o (number-of 3 (measured l) e (measured-number l) h) (fails (measured l) e (lengths-pass l) h)) (λ m.
+    walk-law b _ s o (header-says l n m) (walked (partsOf b) 0 (instructionCount (partsOf b)))))))
 
-law-of : (b : List ℕ) (r : Result Parts Refusal) → loading b ≡ r → Places-of (partsOf b) r → Loaded b r
-unfolding Places-of
-law-of b (Ok t) h p = says b t h
-law-of b (Err e) h p = ((λ l. let k = passes b l in let z : _≡_ {A = ℕ} 0 1 = cc in omega arith), p)
+-- what is blamed is not lawful
+blamed-unlawful : (b : List ℕ) (e : Refusal) → Blamed b e → Lawful b → ⊥
+blamed-unlawful b (Size bytes) d l = d .size refl (l .size)
+blamed-unlawful b (Begins part offset earliest) d l = d .place refl (l .places)
+blamed-unlawful b (Ends part end bytes) d l = d .place refl (l .places)
+blamed-unlawful b (Number field found) d l = d .header refl (l .header)
+blamed-unlawful b (Records part length) d l = d .header refl (l .header)
+blamed-unlawful b (Uneven part length expected) d l = d .header refl (l .header)
+blamed-unlawful b (Instruction at word limits) d l = d .first .wrong (l .decodes at (d .first .inside))
+
+law-of : (b : List ℕ) (r : Result Parts Refusal) → Law b r → Loaded b r
+law-of b (Ok t) h = h
+law-of b (Err e) h = (blamed-unlawful b e h, h)
 
 pub loaded : (b : List ℕ) (r : Result Parts Refusal) → r ≡ loading b → Loaded b r
-loaded b r h = law-of b r (sym h) (subst (Places-of (partsOf b)) (sym h) (loading-places b))
+loaded b r h = law-of b r (subst (Law b) (sym h) (loading-law b))

@@ -9,6 +9,7 @@ use Rattle.table.specs.Header.{ending}
 use Rattle.table.specs.Instructions.{InRange, encoding}
 use Rattle.table.specs.Layout.{layoutOf}
 use Rattle.table.specs.Parts.{Parts, partsOf}
+use Rattle.table.specs.Refusals.{numberOf}
 use Rattle.table.specs.Reading.{instructionCount, limitsOf, wordAt}
 use Rattle.table.specs.declared.instructions.Instruction.{Instruction}
 use Rattle.table.specs.declared.instructions.Limits.{Limits}
@@ -35,19 +36,35 @@ Whole size least most bytes = (n : ℕ) × (bytes ≡ size * n) × (least ≤ n)
 abbrev pub Encoded : Limits → Word → Type 0
 Encoded m w = (o : Instruction) × (encoding o ≡ w) × InRange m o
 
+-- 1: from 48 to 65,536 bytes
+abbrev pub Sized : List ℕ → Type 0
+Sized b = (48 ≤ length b) × (length b ≤ 65536)
+
+-- 2: the parts lie one after another behind the header
+abbrev pub Ordered : List ℕ → Type 0
+Ordered b = InOrder 48 (spans (layoutOf b)) (length b)
+
+-- 3: the header's numbers and the parts' lengths are in range
+pub record Headed (l : Layout) : Type 0 where
+  pub maximum : (1 ≤ l .maximum) × (l .maximum ≤ 256)
+  pub locals : l .locals ≤ 64
+  pub zero : l .zero ≡ 0
+  pub pairs : l .pairs ≡ 5
+  pub instructions : Whole 4 1 4096 (l .instructions .length)
+  pub shapes : l .shapes .length ≡ l .instructions .length
+  pub nodes : Whole 8 0 1024 (l .nodes .length)
+  pub constants : Whole 4 0 1024 (l .constants .length)
+  pub rows : l .rows .length ≡ l .instructions .length
+
+-- 4: every word is an instruction's
+abbrev pub Decodes : Parts → Type 0
+Decodes t = (i : ℕ) → i < instructionCount t → Encoded (limitsOf t) (wordAt t i)
+
 pub record Lawful (b : List ℕ) : Type 0 where
-  pub size : (48 ≤ length b) × (length b ≤ 65536)
-  pub places : InOrder 48 (spans (layoutOf b)) (length b)
-  pub maximum : (1 ≤ layoutOf b .maximum) × (layoutOf b .maximum ≤ 256)
-  pub locals : layoutOf b .locals ≤ 64
-  pub zero : layoutOf b .zero ≡ 0
-  pub pairs : layoutOf b .pairs ≡ 5
-  pub instructions : Whole 4 1 4096 (layoutOf b .instructions .length)
-  pub shapes : layoutOf b .shapes .length ≡ layoutOf b .instructions .length
-  pub nodes : Whole 8 0 1024 (layoutOf b .nodes .length)
-  pub constants : Whole 4 0 1024 (layoutOf b .constants .length)
-  pub rows : layoutOf b .rows .length ≡ layoutOf b .instructions .length
-  pub decodes : (i : ℕ) → i < instructionCount (partsOf b) → Encoded (limitsOf (partsOf b)) (wordAt (partsOf b) i)
+  pub size : Sized b
+  pub places : Ordered b
+  pub header : Headed (layoutOf b)
+  pub decodes : Decodes (partsOf b)
 
 -- instruction i is the first that no instruction's encoding matches
 pub record First (t : Parts) (i : ℕ) : Type 0 where
@@ -65,7 +82,17 @@ Placed t (Records part length) = Unit {0}
 Placed t (Uneven part length expected) = Unit {0}
 Placed t (refusal.Instruction at word limits) = First t at
 
--- the law of loading: what is a table is loaded, what is none is refused, and a refused instruction is the first wrong one
+-- a refusal's number says what is wrong: what the numbers below it ask is met, and what it asks is not
+pub record Blamed (b : List ℕ) (e : Refusal) : Type 0 where
+  pub size : numberOf e ≡ 1 → Sized b → ⊥
+  pub sized : 1 < numberOf e → Sized b
+  pub place : numberOf e ≡ 2 → Ordered b → ⊥
+  pub placed : 2 < numberOf e → Ordered b
+  pub header : numberOf e ≡ 3 → Headed (layoutOf b) → ⊥
+  pub headed : 3 < numberOf e → Headed (layoutOf b)
+  pub first : Placed (partsOf b) e
+
+-- the law of loading: what is a table is loaded, what is none is refused for what is wrong with it
 abbrev pub Loaded : {A : Type 0} → List ℕ → Result A Refusal → Type 0
 Loaded b (Ok t) = Lawful b
-Loaded b (Err e) = (Lawful b → ⊥) × Placed (partsOf b) e
+Loaded b (Err e) = (Lawful b → ⊥) × Blamed b e

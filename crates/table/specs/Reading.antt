@@ -50,8 +50,8 @@ shapeAt t i = given (ltb i (records 4 (t .shapes))) (shapeFrom (t .shapes) (4 * 
 unfoldable pub nodeAt : Parts → ℕ → Option Node
 nodeAt t k = given (leb 1 k && leb k (nodeCount t)) (nodeFrom (t .nodes) (8 * (k - 1)))
 
-unfoldable pub constantAt : Parts → ℕ → Option ℕ
+abbrev pub constantAt : Parts → ℕ → Option ℕ
 constantAt t i = given (ltb i (constantCount t)) (u32At (t .constants) (4 * i))
 
-unfoldable pub rowAt : Parts → ℕ → Option ℕ
+abbrev pub rowAt : Parts → ℕ → Option ℕ
 rowAt t i = given (ltb i (records 4 (t .rows))) (u32At (t .rows) (4 * i))
