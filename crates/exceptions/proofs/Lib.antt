@@ -1,2 +1,3 @@
 mod Rings
+mod Standing
 mod Tabling

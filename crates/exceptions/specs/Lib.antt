@@ -1,3 +1,4 @@
+pub mod Levels
 pub mod Links
 pub mod Questions
 pub mod World
