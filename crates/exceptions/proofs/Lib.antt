@@ -1,3 +1,5 @@
+mod Keeping
 mod Rings
 mod Standing
 mod Tabling
+mod Walking

@@ -4,6 +4,7 @@
 // It rests on std alone; the crate hosts builds the questions themselves and two hosts on it.
 // Its page is docs/links-and-levels.md, and docs/hosts.md has the questions.
 pub mod levels;
+pub mod linking;
 pub mod links;
 pub mod questions;
 pub mod world;
