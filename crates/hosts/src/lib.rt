@@ -5,3 +5,4 @@
 // Its page is docs/hosts.md.
 pub mod host;
 pub mod rack;
+pub mod tape;
