@@ -14,7 +14,7 @@ use Rattle.std.specs.declared.option.Option.the-variants.{Some, None}
 use Rattle.exceptions.specs.declared.linking.Walk.{Walk}
 use Rattle.exceptions.specs.Links.{Links, linked, hop, hops, Ringless, Within}
 use Rattle.exceptions.specs.Linking.{further, hopped, walkFrom, cutting, relinked, linkable, contextualized, followedBy, linkOut, linkLeft}
-use Rattle.exceptions.specs.Chaining.{Handled, Precedes, Apart, Reaches, Linked, Chains}
+use Rattle.exceptions.specs.Chaining.{Handled, Precedes, Apart, Reaches, Linked, Chains, Implicit-chaining}
 use Rattle.exceptions.specs.Levels.{LevelList, topmostOf}
 use Rattle.exceptions.specs.World.{World, Lawful, withLinks, relinking}
 use Rattle.exceptions.proofs.Rings.{
@@ -212,10 +212,16 @@ module _ (limit : ℕ) (f : Links) (e : ℕ) (some : 1 ≤ limit) (ring : Ringle
 
 -- the same of a host that is left so
 pub left-chains : (limit : ℕ) (s : LevelList) (e r : ℕ) (before after : World) → Lawful limit before → r ≡ linkOut limit s e before → after ≡ linkLeft limit s e before → Chains limit s e before after r
+unfolding Chains
 left-chains limit s e r before after lawful p q =
-    subst (λ n. Chains limit s e before after n) (sym p)
-    (subst (λ w. Chains limit s e before w (linkOut limit s e before)) (sym q)
+    let Goal : ℕ → World → Type 0 = λ n w. Linked limit (topmostOf s) e (before .links) (w .links) n in
+    subst (λ n. Goal n after) (sym p)
+    (subst (Goal (linkOut limit s e before)) (sym q)
         (linking-keeps limit (before .links) e (lawful .some) (lawful .ringless) (lawful .within) (topmostOf s)))
+
+pub chains-implicit : (limit : ℕ) (s : LevelList) (e r : ℕ) (before after : World) → Chains limit s e before after r → Implicit-chaining limit s e before after
+unfolding Chains Implicit-chaining
+chains-implicit limit s e r before after chains c h none = chains .chained c h
 
 module _ (limit : ℕ) (f : Links) (e : ℕ) (top : Option ℕ) where
   abbrev pub Answered : ℕ → Links → Type 0

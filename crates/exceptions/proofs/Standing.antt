@@ -11,7 +11,26 @@ use Rattle.std.proofs.shelf.Tests.{ltb-true}
 use Rattle.std.specs.Options.{Cases}
 use Rattle.std.specs.declared.option.Option.{Option}
 use Rattle.std.specs.declared.option.Option.the-variants.{Some, None}
-use Rattle.exceptions.specs.Levels.{upto, holdable, orElse, topmostIn}
+use Rattle.std.specs.declared.result.Result.{Result}
+use Rattle.std.specs.declared.result.Result.the-variants.{Ok, Err}
+use Rattle.std.proofs.shelf.Ways.{tells}
+use Rattle.exceptions.specs.declared.levels.LevelToken.{LevelToken}
+use Rattle.exceptions.specs.declared.levels.CloseRefused.{CloseRefused}
+use Rattle.exceptions.specs.declared.levels.OpenRefused.{OpenRefused}
+use Rattle.exceptions.specs.Levels.{
+  LevelList,
+  upto,
+  holdable,
+  orElse,
+  topmostIn,
+  levelCount,
+  openOut,
+  openLeft,
+  Opened,
+  closeOut,
+  closeLeft,
+  Closed,
+}
 
 pub length-upto : (xs : List (Option ℕ)) (n : ℕ) → length (upto xs n) ≡ n
 unfolding upto
@@ -33,6 +52,10 @@ upto-set xs (suc n) i v h =
     let b = upto-set xs n i v (omega arith) in
     cc
 
+pub read-below : (limit : ℕ) (o : Option ℕ) → ((y : ℕ) → o ≡ Some y → y < limit) → Cases o (Unit {0}) (λ y. y < limit)
+read-below limit None h = tt
+read-below limit (Some e) h = h e refl
+
 pub held-below : (limit : ℕ) (e : Option ℕ) → holdable limit e ≡ true → Cases e (Unit {0}) (λ y. y < limit)
 held-below limit None h = tt
 held-below limit (Some e) h = ltb-true e limit h
@@ -47,3 +70,13 @@ topmost-less xs n h = ap topmostIn (upto-less xs n h)
 pub topmost-end : (xs : List (Option ℕ)) (n : ℕ) → n ≤ 0 → topmostIn (upto xs n) ≡ None
 unfolding topmostIn upto
 topmost-end xs n h = let k : n ≡ 0 = omega arith in ap (λ i. topmostIn (upto xs i)) k
+
+pub open-undone : (e : Option ℕ) (s after : LevelList) (r : Result LevelToken OpenRefused) → r ≡ openOut e s → after ≡ openLeft e s → Opened s after r
+unfolding Opened openOut openLeft closeOut closeLeft levelCount
+open-undone e s after (Ok t) p q = grind (arith, tells)
+open-undone e s after (Err x) p q = grind (arith, tells)
+
+pub close-once : (t : LevelToken) (s after : LevelList) (r : Result Unit CloseRefused) → r ≡ closeOut t s → after ≡ closeLeft t s → Closed t s after r
+unfolding Closed closeOut closeLeft levelCount
+close-once t s after (Ok u) p q = grind (arith, tells)
+close-once t s after (Err x) p q = grind (arith, tells)

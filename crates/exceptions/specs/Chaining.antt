@@ -46,10 +46,10 @@ pub record Linked (limit : ℕ) (top : Option ℕ) (e : ℕ) (before after : Lin
   pub idle : ((c : ℕ) → Handled limit top e c → ⊥) → (after ≡ before) × (followed ≡ 0)
 
 -- the same of a host before and after, raising e over these levels
-abbrev pub Chains : ℕ → LevelList → ℕ → World → World → ℕ → Type 0
+unfoldable pub Chains : ℕ → LevelList → ℕ → World → World → ℕ → Type 0
 Chains limit s e before after followed = Linked limit (topmostOf s) e (before .links) (after .links) followed
 
 -- PEP 3134, implicit chaining: an exception that has no context, raised while another is handled, gets that one as its context
-abbrev pub Implicit-chaining : ℕ → LevelList → ℕ → World → World → Type 0
+unfoldable pub Implicit-chaining : ℕ → LevelList → ℕ → World → World → Type 0
 Implicit-chaining limit s e before after =
     (c : ℕ) → Handled limit (topmostOf s) e c → before .links e ≡ None → after .links e ≡ Some c

@@ -1,5 +1,6 @@
 -- Levels: the exceptions being handled, one level upon the other.
 use Prim.Native.Nat.{ℕ, zero, suc}
+use mathlib.Core.Path.{_≡_}
 use mathlib.Core.Bool.{Bool, true, cond, _&&_}
 use mathlib.Core.List.{List, [], _∷_}
 use lib.Dec.{eqb, ltb}
@@ -87,6 +88,16 @@ closeLeft t s = cond (namesLast t (s .lower)) (closed (s .exceptions) (s .last) 
 unfoldable pub currentLeft : Option ℕ → LevelList → LevelList
 currentLeft e s =
     cond (holdable (s .exceptions) e) (record { exceptions = s .exceptions; last = e; lower = s .lower }) s
+
+-- what open gives is good to close the level opened, and nothing else is changed; a refusal leaves the levels as they were
+unfoldable pub Opened : LevelList → LevelList → Result LevelToken OpenRefused → Type 0
+Opened before after (Ok t) = (closeOut t after ≡ Ok tt) × (closeLeft t after ≡ before)
+Opened before after (Err x) = after ≡ before
+
+-- what closed a level is not good again upon what is left; a refusal hands the token back and leaves the levels as they were
+unfoldable pub Closed : LevelToken → LevelList → LevelList → Result Unit CloseRefused → Type 0
+Closed t before after (Ok u) = (levelCount before ≡ suc (levelCount after)) × (closeOut t after ≡ Err (record { token = t }))
+Closed t before after (Err x) = (x .token ≡ t) × (after ≡ before)
 
 -- the number and the values of each refusal
 abbrev pub openRefusal : OpenRefused → ℕ × List ℕ

@@ -1,5 +1,7 @@
 ghost use mathlib.Core.Path.{_≡_};
-ghost use Rattle.exceptions.specs.Levels.{levelsOf, firstLevel, levelCount, topmostOf, holdable, openOut, openLeft, closeOut, closeLeft, currentLeft, openRefusal, closeRefusal};
+ghost use Prim.Native.Nat.{_<_};
+ghost use Rattle.std.specs.Options.{Cases};
+ghost use Rattle.exceptions.specs.Levels.{levelsOf, firstLevel, levelCount, topmostOf, holdable, openOut, openLeft, Opened, closeOut, closeLeft, Closed, currentLeft, openRefusal, closeRefusal};
 use super::CloseRefused;
 use super::LevelToken;
 use super::Levels;
@@ -30,13 +32,15 @@ impl Levels {
     }
 
     pub fn current(&self) -> Option<u16>
-        ensures { λ r. ⌜ r ≡ levelsOf (now (self .entry)) .last ⌝ }
+        ensures told { λ r. ⌜ r ≡ levelsOf (now (self .entry)) .last ⌝ }
+        ensures below { λ r. ⌜ Cases r (Unit {0}) (λ e. e < levelsOf (now (self .entry)) .exceptions) ⌝ }
     {
         self.held[self.opened as usize]
     }
 
     pub fn topmost(&self) -> Option<u16>
-        ensures { λ r. ⌜ r ≡ topmostOf (levelsOf (now (self .entry))) ⌝ }
+        ensures told { λ r. ⌜ r ≡ topmostOf (levelsOf (now (self .entry))) ⌝ }
+        ensures below { λ r. ⌜ Cases r (Unit {0}) (λ e. e < levelsOf (now (self .entry)) .exceptions) ⌝ }
     {
         for i in (0..self.opened + 1).rev() {
             if let Some(e) = self.held[i as usize] {
@@ -57,6 +61,7 @@ impl Levels {
     pub fn open(&mut self, e: Option<u16>) -> Result<LevelToken, OpenRefused>
         ensures told { λ r. ⌜ r ≡ openOut e (levelsOf (now (self .entry))) ⌝ }
         ensures left { λ _. ⌜ levelsOf (now (self .exit)) ≡ openLeft e (levelsOf (now (self .entry))) ⌝ }
+        ensures undone { λ r. ⌜ Opened (levelsOf (now (self .entry))) (levelsOf (now (self .exit))) r ⌝ }
     {
         if self.count() == 16 {
             return Err(OpenRefused::TooManyLevels);
@@ -73,6 +78,7 @@ impl Levels {
     pub fn close(&mut self, token: LevelToken) -> Result<(), CloseRefused>
         ensures told { λ r. ⌜ r ≡ closeOut token (levelsOf (now (self .entry))) ⌝ }
         ensures left { λ _. ⌜ levelsOf (now (self .exit)) ≡ closeLeft token (levelsOf (now (self .entry))) ⌝ }
+        ensures once { λ r. ⌜ Closed token (levelsOf (now (self .entry))) (levelsOf (now (self .exit))) r ⌝ }
     {
         if token.level == 0 || token.level != self.opened {
             return Err(CloseRefused { token });

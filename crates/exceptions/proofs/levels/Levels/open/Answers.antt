@@ -1,20 +1,34 @@
-use mathlib.Core.Path.{sym}
-use Prim.Native.Nat.{_<_, _+_}
+use mathlib.Core.Path.{_≡_, sym}
+use mathlib.Core.List.{List}
+use Prim.Native.Nat.{ℕ, _<_, _+_}
 use native.Mathlib.Omega.{arith}
+use lib.ListN.{getD, set}
 use lib.Seq.{getD-set-same, getD-set-other}
 use Rattle.std.proofs.shelf.Ways.{tells}
-use Rattle.exceptions.specs.Levels.{levelCount, openOut, openLeft}
-use Rattle.exceptions.proofs.Standing.{length-upto, upto-more, upto-set, held-below}
+use Rattle.std.specs.declared.option.Option.{Option}
+use Rattle.std.specs.declared.option.Option.the-variants.{None}
+use Rattle.std.specs.declared.result.Result.the-variants.{Ok, Err}
+use Rattle.exceptions.specs.declared.levels.OpenRefused.the-variants.{TooManyLevels, ExceptionTooHigh}
+use Rattle.exceptions.specs.Levels.{LevelList, levelsOf, levelCount, upto, openOut, openLeft}
+use Rattle.exceptions.proofs.Standing.{length-upto, upto-more, upto-set, held-below, open-undone}
 use Rattle.exceptions.proofs.Tabling.{set-within}
 use Rattle.exceptions.proofs.levels.Levels.open.Needs as need
 
 pub returns-then-count-eq16 : need.returns-then-count-eq16
 unfolding openOut openLeft
-returns-then-count-eq16 c = grind (arith, tells)
+returns-then-count-eq16 c =
+    let s : LevelList = levelsOf (c .args .self .now) in
+    let told : Err TooManyLevels ≡ openOut (c .args .e) s = grind (arith, tells) in
+    let left : s ≡ openLeft (c .args .e) s = grind (arith, tells) in
+    record { told = told; left = left; undone = open-undone (c .args .e) s s _ told left }
 
 pub returns-then-not-can-hold : need.returns-then-not-can-hold
 unfolding openOut openLeft levelCount
-returns-then-not-can-hold c = grind (arith, tells, length-upto)
+returns-then-not-can-hold c =
+    let s : LevelList = levelsOf (c .args .self .now) in
+    let told : Err ExceptionTooHigh ≡ openOut (c .args .e) s = grind (arith, tells, length-upto) in
+    let left : s ≡ openLeft (c .args .e) s = grind (arith, tells, length-upto) in
+    record { told = told; left = left; undone = open-undone (c .args .e) s s _ told left }
 
 pub index-self-level : need.index-self-level
 unfolding levelCount
@@ -32,4 +46,11 @@ ghost-self c =
 
 pub returns : need.returns
 unfolding openOut openLeft levelCount
-returns c = grind (arith, tells, length-upto, upto-more, upto-set, getD-set-same, getD-set-other)
+returns c =
+    let s : LevelList = levelsOf (c .args .self .now) in
+    let level : ℕ = c .args .self .now .opened + 1 in
+    let held : List (Option ℕ) = set (c .args .self .now .held) level (c .args .e) in
+    let after : LevelList = record { exceptions = s .exceptions; last = getD held level None; lower = upto held level } in
+    let told : Ok (record { level = level }) ≡ openOut (c .args .e) s = grind (arith, tells, length-upto) in
+    let left : after ≡ openLeft (c .args .e) s = grind (arith, tells, length-upto, upto-more, upto-set, getD-set-same, getD-set-other) in
+    record { told = told; left = left; undone = open-undone (c .args .e) s after _ told left }
