@@ -1,1 +1,2 @@
+mod Charges
 mod Entries

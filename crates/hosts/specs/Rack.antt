@@ -1,5 +1,6 @@
 -- The rack: eight devices, each with a charge; handle h is device h mod 8.
 use Prim.Native.Nat.{ℕ, _+_, _%_}
+use mathlib.Core.Path.{_≡_}
 use mathlib.Core.Bool.{Bool, cond}
 use mathlib.Core.List.{List, [], _∷_}
 use lib.Dec.{eqb, ltb}
@@ -51,21 +52,26 @@ callReply charges f = gives (Err (f % 8)) Ok (chargeOf charges f)
 abbrev pub nextReply : List ℕ → ℕ → Result PyIterReturn ℕ
 nextReply charges v = gives (Ok (StopIteration None)) (λ n. Ok (Return n)) (chargeOf charges v)
 
--- call, next and send use their first argument's device; nothing else changes a charge
-abbrev pub rackMove : List ℕ → Question → List ℕ
-rackMove s Signal = s
-rackMove s (Truth v) = s
-rackMove s (Iterate v) = s
-rackMove s (Next v) = used s v
-rackMove s (Call f args) = used s f
-rackMove s (EnterOf v) = s
-rackMove s (ExitOf v) = s
-rackMove s (Instantiate v) = s
-rackMove s (ValueOf e) = s
-rackMove s (Split e) = s
-rackMove s (Send v w) = used s v
-rackMove s (Fail kind a) = s
-rackMove s (Trace e index row) = s
+-- call, next and send use their first argument's device
+abbrev pub usedBy : Question → Option ℕ
+usedBy Signal = None
+usedBy (Truth v) = None
+usedBy (Iterate v) = None
+usedBy (Next v) = Some v
+usedBy (Call f args) = Some f
+usedBy (EnterOf v) = None
+usedBy (ExitOf v) = None
+usedBy (Instantiate v) = None
+usedBy (ValueOf e) = None
+usedBy (Split e) = None
+usedBy (Send v w) = Some v
+usedBy (Fail kind a) = None
+usedBy (Trace e index row) = None
+
+-- nothing else changes a charge
+abbrev pub recharged : List ℕ → Option ℕ → List ℕ
+recharged charges None = charges
+recharged charges (Some h) = used charges h
 
 -- truth is whether there is a charge, signal never raises, every other answer is the first argument, mod 8 as an exception
 abbrev pub rackReply : List ℕ → (q : Question) → AnswerTo q
@@ -83,10 +89,24 @@ rackReply s (Send v w) = nextReply s v
 rackReply s (Fail kind a) = kindNumber kind % 8
 rackReply s (Trace e index row) = tt
 
+-- the charges that a list of questions leaves
 abbrev pub rackMoves : List ℕ → List Question → List ℕ
 rackMoves s [] = s
-rackMoves s (q ∷ earlier) = rackMoves (rackMove s q) earlier
+rackMoves s (q ∷ earlier) = rackMoves (recharged s (usedBy q)) earlier
 
 -- the answer to a question is the reply at the charges that the earlier ones left
 abbrev pub rackMeaning : List ℕ → Meaning
 rackMeaning s earlier q = rackReply (rackMoves s earlier) q
+
+-- how often these questions use the device of h
+abbrev pub usesOne : ℕ → Option ℕ → ℕ
+usesOne h None = 0
+usesOne h (Some d) = cond (eqb (d % 8) (h % 8)) 1 0
+
+unfoldable pub uses : ℕ → List Question → ℕ
+uses h [] = 0
+uses h (q ∷ earlier) = usesOne h (usedBy q) + uses h earlier
+
+-- the charge of a device is the number of times that it was used, mod 4
+unfoldable pub Counts : List ℕ → Type 0
+Counts charges = (h : ℕ) (earlier : List Question) → chargeOf (rackMoves charges earlier) h ≡ uses h earlier % 4

@@ -1,6 +1,7 @@
 -- The tape: bytes lent to the host, five to a question, of which the first is a kind and the others a number.
 use Prim.Native.Nat.{ℕ, _+_, _*_, _%_}
-use mathlib.Core.Bool.{Bool, cond}
+use mathlib.Core.Path.{_≡_}
+use mathlib.Core.Bool.{Bool, true, false, cond}
 use mathlib.Core.List.{List, [], _∷_}
 use lib.Dec.{eqb, ltb}
 use lib.ListN.{length, getD, drop}
@@ -75,25 +76,36 @@ entryReply x (Fail kind a) = x .number % 64
 entryReply x (Trace e index row) = tt
 
 -- every question takes an entry but trace
-abbrev pub tapeMove : List ℕ → Question → List ℕ
-tapeMove s Signal = entryLeft s
-tapeMove s (Truth v) = entryLeft s
-tapeMove s (Iterate v) = entryLeft s
-tapeMove s (Next v) = entryLeft s
-tapeMove s (Call f args) = entryLeft s
-tapeMove s (EnterOf v) = entryLeft s
-tapeMove s (ExitOf v) = entryLeft s
-tapeMove s (Instantiate v) = entryLeft s
-tapeMove s (ValueOf e) = entryLeft s
-tapeMove s (Split e) = entryLeft s
-tapeMove s (Send v w) = entryLeft s
-tapeMove s (Fail kind a) = entryLeft s
-tapeMove s (Trace e index row) = s
+abbrev pub takes : Question → Bool
+takes Signal = true
+takes (Truth v) = true
+takes (Iterate v) = true
+takes (Next v) = true
+takes (Call f args) = true
+takes (EnterOf v) = true
+takes (ExitOf v) = true
+takes (Instantiate v) = true
+takes (ValueOf e) = true
+takes (Split e) = true
+takes (Send v w) = true
+takes (Fail kind a) = true
+takes (Trace e index row) = false
 
+-- the tape that a list of questions leaves
 abbrev pub tapeMoves : List ℕ → List Question → List ℕ
 tapeMoves s [] = s
-tapeMoves s (q ∷ earlier) = tapeMoves (tapeMove s q) earlier
+tapeMoves s (q ∷ earlier) = tapeMoves (cond (takes q) (entryLeft s) s) earlier
 
 -- the answer to a question is that of the entry which the earlier ones left at the front
 abbrev pub tapeMeaning : List ℕ → Meaning
 tapeMeaning s earlier q = entryReply (entryOf (tapeMoves s earlier)) q
+
+-- how many entries a list of questions takes
+unfoldable pub taken : List Question → ℕ
+taken [] = 0
+taken (q ∷ earlier) = cond (takes q) 1 0 + taken earlier
+
+-- questions are answered by the entries of the tape in their order: after n entries taken, by the one at byte 5 n
+unfoldable pub InOrder : List ℕ → List ℕ → Type 0
+InOrder tape s =
+    (earlier : List Question) (q : Question) → tapeMeaning s earlier q ≡ entryReply (entryOf (drop (taken earlier * 5) tape)) q

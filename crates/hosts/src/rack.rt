@@ -4,7 +4,7 @@ ghost use lib.ListN.{getD, replicate};
 ghost use Rattle.std.specs.declared.option.Option.the-variants.{Some, None};
 ghost use Rattle.exceptions.specs.Links.{tabled, unlinked};
 ghost use Rattle.exceptions.specs.World.{World};
-ghost use Rattle.hosts.specs.Rack.{rackMeaning, chargeOf, used, gives};
+ghost use Rattle.hosts.specs.Rack.{rackMeaning, chargeOf, used, gives, Counts};
 use crate::host::Host;
 use exceptions::links::LinkTable;
 use exceptions::questions::FailKind;
@@ -111,6 +111,7 @@ impl Rack {
     // No device has a charge, and no exception a context.
     pub fn new() -> Self
         ensures charges { λ r. ⌜ r .charges ≡ replicate 8 0 ⌝ }
+        ensures counts { λ r. ⌜ Counts (r .charges) ⌝ }
         ensures links { λ r. ⌜ tabled (r .links .contexts) ≡ unlinked ⌝ }
     {
         Rack {

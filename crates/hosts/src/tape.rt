@@ -3,7 +3,7 @@ ghost use denote.Ref.{now};
 ghost use lib.ListN.{drop};
 ghost use Rattle.exceptions.specs.Links.{tabled, unlinked};
 ghost use Rattle.exceptions.specs.World.{World};
-ghost use Rattle.hosts.specs.Tape.{tapeMeaning, entryOf, entryLeft, raising};
+ghost use Rattle.hosts.specs.Tape.{tapeMeaning, entryOf, entryLeft, raising, InOrder};
 use crate::host::Host;
 use exceptions::links::LinkTable;
 use exceptions::questions::FailKind;
@@ -128,6 +128,7 @@ impl<'a> Tape<'a> {
     // The whole tape is still to be read, and no exception has a context.
     pub fn new(bytes: &'a [u8]) -> Tape<'a>
         ensures tape { λ r. ⌜ drop (r .at) (now (r .bytes)) ≡ now (bytes .entry) ⌝ }
+        ensures order { λ r. ⌜ InOrder (now (bytes .entry)) (drop (r .at) (now (r .bytes))) ⌝ }
         ensures links { λ r. ⌜ tabled (r .links .contexts) ≡ unlinked ⌝ }
     {
         Tape {
