@@ -118,9 +118,9 @@ module _ (limit : ℕ) (f : Links) (e c : ℕ) (ring : Ringless f) (within : Wit
       let last : hop g (hops g m (Some c)) ≡ Some e = sym (hops-last g m (Some c)) ∙ (sym (ap (λ i. hops g i (Some c)) same) ∙ p) in
       ⊎-elim (λ z. some-not-none _ last (ap (hop g) z))
       (λ z.
-          let y : ℕ = valueOr (hops g m (Some c)) 0 in
-          let s : Some y ≡ Some k = sym (cut-old f k m y (Some c) z) ∙ q in
-          some-not-none _ last (ap (hop g) (z ∙ s) ∙ own-link f k None))
+      let y : ℕ = valueOr (hops g m (Some c)) 0 in
+      let s : Some y ≡ Some k = sym (cut-old f k m y (Some c) z) ∙ q in
+      some-not-none _ last (ap (hop g) (z ∙ s) ∙ own-link f k None))
       (cases-none (hops g m (Some c)))
 
   pub relinked-ringless : (n : ℕ) (o : Option ℕ) → Found f e c n o → Ringless (linked (cutting f o) e (Some c))
@@ -178,7 +178,7 @@ module _ (limit : ℕ) (f : Links) (e : ℕ) (some : 1 ≤ limit) (ring : Ringle
     same = λ x n never. refl;
     counted = λ c h. absurd (idle c h);
     few = omega arith;
-    idle = λ h. (refl, refl)
+    idle = λ h. (refl, refl);
   }
 
   linked-to : (d : ℕ) → Handled limit (Some d) e d → Linked limit (Some d) e f (relinked limit f e d) (walkFrom f e limit d .followed)
@@ -190,16 +190,16 @@ module _ (limit : ℕ) (f : Links) (e : ℕ) (some : 1 ≤ limit) (ring : Ringle
       let is : (c : ℕ) → Handled limit (Some d) e c → d ≡ c = λ c h. let p = h .topmost in cc in
       let reaches : Reaches f d e (w .followed) = found-reaches limit f e d ring within low (w .followed) (w .cut) found in
       record {
-    ringless = relinked-ringless limit f e d ring within low (w .followed) (w .cut) found;
-    within = relinked-within limit f e d ring within low (w .cut);
-    chained = λ c h. own-link (cutting f (w .cut)) e (Some d) ∙ ap Some (is c h);
-    cut = λ c k h p. relinked-cut limit f e d ring within low (w .followed) (w .cut) k found (subst (λ x. Precedes f x e k) (sym (is c h)) p);
-    kept = λ c k h other not. relinked-kept limit f e d ring within low (w .followed) (w .cut) k found other (λ p. not (subst (λ x. Precedes f x e k) (is c h) p));
-    same = λ x n never. relinked-same limit f e d ring within low (w .followed) (w .cut) x n found never;
-    counted = λ c h. subst (λ x. Reaches f x e (w .followed)) (is c h) reaches;
-    few = found-few limit f e d ring within low (w .followed) reaches;
-    idle = λ none. absurd (none d here)
-  }
+        ringless = relinked-ringless limit f e d ring within low (w .followed) (w .cut) found;
+        within = relinked-within limit f e d ring within low (w .cut);
+        chained = λ c h. own-link (cutting f (w .cut)) e (Some d) ∙ ap Some (is c h);
+        cut = λ c k h p. relinked-cut limit f e d ring within low (w .followed) (w .cut) k found (subst (λ x. Precedes f x e k) (sym (is c h)) p);
+        kept = λ c k h other not. relinked-kept limit f e d ring within low (w .followed) (w .cut) k found other (λ p. not (subst (λ x. Precedes f x e k) (is c h) p));
+        same = λ x n never. relinked-same limit f e d ring within low (w .followed) (w .cut) x n found never;
+        counted = λ c h. subst (λ x. Reaches f x e (w .followed)) (is c h) reaches;
+        few = found-few limit f e d ring within low (w .followed) reaches;
+        idle = λ none. absurd (none d here);
+      }
 
   pub linking-keeps : (top : Option ℕ) → Linked limit top e f (contextualized limit f e top) (followedBy limit f e top)
   unfolding contextualized followedBy
@@ -217,7 +217,7 @@ left-chains limit s e r before after lawful p q =
     let Goal : ℕ → World → Type 0 = λ n w. Linked limit (topmostOf s) e (before .links) (w .links) n in
     subst (λ n. Goal n after) (sym p)
     (subst (Goal (linkOut limit s e before)) (sym q)
-        (linking-keeps limit (before .links) e (lawful .some) (lawful .ringless) (lawful .within) (topmostOf s)))
+    (linking-keeps limit (before .links) e (lawful .some) (lawful .ringless) (lawful .within) (topmostOf s)))
 
 pub chains-implicit : (limit : ℕ) (s : LevelList) (e r : ℕ) (before after : World) → Chains limit s e before after r → Implicit-chaining limit s e before after
 unfolding Chains Implicit-chaining
@@ -233,10 +233,10 @@ module _ (limit : ℕ) (f : Links) (e : ℕ) (top : Option ℕ) where
 
   answered-some : (c : ℕ) (b : Bool) → top ≡ Some c → linkable limit e c ≡ b → Answered (cond b (walkFrom f e limit c .followed) 0) (cond b (relinked limit f e c) f)
   unfolding followedBy contextualized
-  answered-some c b p q =
-      ( sym (ap (followedBy limit f e) p ∙ ap (λ t. cond t (walkFrom f e limit c .followed) 0) q)
-      , sym (ap (contextualized limit f e) p ∙ ap (λ t. cond t (relinked limit f e c) f) q)
-      )
+  answered-some c b p q = (
+    sym (ap (followedBy limit f e) p ∙ ap (λ t. cond t (walkFrom f e limit c .followed) 0) q),
+    sym (ap (contextualized limit f e) p ∙ ap (λ t. cond t (relinked limit f e c) f) q),
+  )
 
   pub answered-not : (c : ℕ) → top ≡ Some c → linkable limit e c ≡ false → Answered 0 f
   answered-not c p q = answered-some c false p q
@@ -265,6 +265,6 @@ module _ (limit : ℕ) (w : World) (e c : ℕ) (lawful : Lawful limit w) (low : 
   links-done s u v p raised q r =
       let linkable-so : linkable limit e c ≡ true = grind (arith, tells) in
       let a : Answered limit (w .links) e (topmostOf s) (walk .followed) (linked (cutting (w .links) (walk .cut)) e (Some c)) =
-          subst (λ v. Answered limit (w .links) e (topmostOf s) (v .followed) (linked (cutting (w .links) (v .cut)) e (Some c))) (sym is)
-          (answered-linked limit (w .links) e (topmostOf s) c p linkable-so) in
+      subst (λ v. Answered limit (w .links) e (topmostOf s) (v .followed) (linked (cutting (w .links) (v .cut)) e (Some c))) (sym is)
+      (answered-linked limit (w .links) e (topmostOf s) c p linkable-so) in
       (a .0, r ∙ (ap (relinking e (Some c)) q ∙ ap (λ f. withLinks f w) (a .1)))

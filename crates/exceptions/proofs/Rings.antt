@@ -76,9 +76,9 @@ passes f e c (suc n) None = passes f e c n None
 passes f e c (suc n) (Some y) =
     ⊎-elim (λ p. inr (0, ap Some p))
     (λ p.
-        let s : cond (eqb y e) c (f y) ≡ f y = ap (λ b. cond b c (f y)) (ne-eqb y e p) in
-        ⊎-elim (λ q. inl (ap (hops (linked f e c) n) s ∙ q)) (λ q. inr (suc (q .0), ap (hops (linked f e c) (q .0)) s ∙ q .1))
-        (passes f e c n (f y)))
+    let s : cond (eqb y e) c (f y) ≡ f y = ap (λ b. cond b c (f y)) (ne-eqb y e p) in
+    ⊎-elim (λ q. inl (ap (hops (linked f e c) n) s ∙ q)) (λ q. inr (suc (q .0), ap (hops (linked f e c) (q .0)) s ∙ q .1))
+    (passes f e c n (f y)))
     (cases-eq y e)
 
 -- steps can be taken in either order
@@ -93,10 +93,10 @@ unfolding hops
 link-ringless f e c ring never n x r =
     ⊎-elim (λ p. ring n x (sym p ∙ r))
     (λ p.
-        let g : Links = linked f e c in
-        let back : hops g (suc n) (Some e) ≡ Some e = ap (hops g (suc n)) (sym (p .1)) ∙ (hops-swap g (suc n) (p .0) (Some x) ∙ (ap (hops g (p .0)) r ∙ p .1)) in
-        let s : cond (eqb e e) c (f e) ≡ c = ap (λ b. cond b c (f e)) (eq-eqb e e refl) in
-        never n (sym (avoids f e c n c never) ∙ (sym (ap (hops g n) s) ∙ back)))
+    let g : Links = linked f e c in
+    let back : hops g (suc n) (Some e) ≡ Some e = ap (hops g (suc n)) (sym (p .1)) ∙ (hops-swap g (suc n) (p .0) (Some x) ∙ (ap (hops g (p .0)) r ∙ p .1)) in
+    let s : cond (eqb e e) c (f e) ≡ c = ap (λ b. cond b c (f e)) (eq-eqb e e refl) in
+    never n (sym (avoids f e c n c never) ∙ (sym (ap (hops g n) s) ∙ back)))
     (passes f e c (suc n) (Some x))
 
 pub cut-ringless : (f : Links) (k : ℕ) → Ringless f → Ringless (linked f k None)
@@ -116,10 +116,10 @@ pub ends : (limit : ℕ) (f : Links) (c : ℕ) → Ringless f → Within limit f
 ends limit f c ring within low =
     ⊎-elim (λ p. p)
     (λ p.
-        let g : ℕ → ℕ = λ i. valueOr (hops f i (Some c)) 0 in
-        let on : (i : ℕ) → i ≤ limit → hops f i (Some c) ≡ Some (g i) =
-            λ i h. ⊎-elim (λ q. absurd (some-not-none _ p (ended f i limit (Some c) h q))) (λ q. q) (cases-none (hops f i (Some c))) in
-        absurd
-        (pigeon limit g (λ i h. hops-below limit f i c (g i) within low (on i h))
-            (λ i j h k q. once-before f (g i) i j (Some c) ring (on i (omega arith)) (on j k ∙ ap Some (sym q)) h)))
+    let g : ℕ → ℕ = λ i. valueOr (hops f i (Some c)) 0 in
+    let on : (i : ℕ) → i ≤ limit → hops f i (Some c) ≡ Some (g i) =
+    λ i h. ⊎-elim (λ q. absurd (some-not-none _ p (ended f i limit (Some c) h q))) (λ q. q) (cases-none (hops f i (Some c))) in
+    absurd
+    (pigeon limit g (λ i h. hops-below limit f i c (g i) within low (on i h))
+    (λ i j h k q. once-before f (g i) i j (Some c) ring (on i (omega arith)) (on j k ∙ ap Some (sym q)) h)))
     (cases-none (hops f limit (Some c)))

@@ -45,11 +45,11 @@ module _ (limit : ℕ) (f : Links) (e c : ℕ) where
   going-from ring within low =
       let k : limit ≡ limit - 0 = omega arith in
       record {
-    low = low;
-    few = omega arith;
-    left = sym (ap (λ i. hops f i (Some c)) k) ∙ ends limit f c ring within low;
-    same = ap (λ i. walkFrom f e i c) k ∙ plus-none (walkFrom f e (limit - 0) c)
-  }
+        low = low;
+        few = omega arith;
+        left = sym (ap (λ i. hops f i (Some c)) k) ∙ ends limit f c ring within low;
+        same = ap (λ i. walkFrom f e i c) k ∙ plus-none (walkFrom f e (limit - 0) c);
+      }
 
   module _ (n a : ℕ) (going : Going limit f e c n a) where
     -- there is a link to spare
@@ -58,8 +58,8 @@ module _ (limit : ℕ) (f : Links) (e c : ℕ) where
     going-few =
         ⊎-elim (λ h. h)
         (λ h.
-            let k : limit - n ≡ 0 = omega arith in
-            absurd (some-not-none (Some a) refl (sym (ap (λ i. hops f i (Some a)) k) ∙ going .left)))
+        let k : limit - n ≡ 0 = omega arith in
+        absurd (some-not-none (Some a) refl (sym (ap (λ i. hops f i (Some a)) k) ∙ going .left)))
         (cases-lt n limit)
 
     going-hop : (o : Option ℕ) → f a ≡ o → walkFrom f e limit c ≡ plus n (hopped e a o (walkFrom f e (limit - (n + 1))))
@@ -74,11 +74,11 @@ module _ (limit : ℕ) (f : Links) (e c : ℕ) where
         let k : limit - n - 1 ≡ limit - (n + 1) = omega arith in
         let w : Walk = walkFrom f e (limit - (n + 1)) d in
         record {
-      low = within a d p;
-      few = omega arith;
-      left = sym (ap (λ i. hops f i (Some d)) k) ∙ (sym (ap (hops f (limit - n - 1)) p) ∙ (sym (hops-step f (limit - n) a (omega arith)) ∙ going .left));
-      same = going-hop (Some d) p ∙ (ap (λ b. plus n (cond b (record { followed = 1; cut = Some a }) (further w))) (ne-eqb d e other) ∙ plus-more n w)
-    }
+          low = within a d p;
+          few = omega arith;
+          left = sym (ap (λ i. hops f i (Some d)) k) ∙ (sym (ap (hops f (limit - n - 1)) p) ∙ (sym (hops-step f (limit - n) a (omega arith)) ∙ going .left));
+          same = going-hop (Some d) p ∙ (ap (λ b. plus n (cond b (record { followed = 1; cut = Some a }) (further w))) (ne-eqb d e other) ∙ plus-more n w);
+        }
 
     pub going-found : (d : ℕ) → f a ≡ Some d → d ≡ e → record { followed = n + 1; cut = Some a } ≡ walkFrom f e limit c
     going-found d p q =

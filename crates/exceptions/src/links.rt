@@ -16,7 +16,9 @@ impl<const N: usize> LinkTable<N> {
     pub fn new() -> Self
         ensures { λ r. ⌜ tabled (r .contexts) ≡ unlinked ⌝ }
     {
-        LinkTable { contexts: [None; N] }
+        LinkTable {
+            contexts: [None; N],
+        }
     }
 
     pub fn context(&self, e: u16) -> Option<u16>

@@ -6,14 +6,16 @@ use mathlib.Core.List.{List, [], _∷_}
 use Prim.Native.Nat.{ℕ, zero, suc, _+_, _%_, _≤_, _<_}
 use native.Mathlib.Nat.{zero-add}
 use native.Mathlib.Omega.{arith}
+use lib.Dec.{ltb}
 use lib.ListN.{length, getD, set, length-set, replicate}
 use lib.Seq.{getD-set-same, getD-set-other}
 use Rattle.std.proofs.shelf.Tests.{cases-eq, eq-eqb, ne-eqb}
 use Rattle.std.proofs.shelf.Ways.{tells}
 use Rattle.std.specs.declared.option.Option.{Option}
 use Rattle.std.specs.declared.option.Option.the-variants.{Some, None}
+use Rattle.std.specs.declared.result.Result.the-variants.{Ok}
 use Rattle.exceptions.specs.Questions.{Question}
-use Rattle.hosts.specs.Rack.{chargeOf, grown, used, usedBy, recharged, rackMoves, usesOne, uses, Counts}
+use Rattle.hosts.specs.Rack.{chargeOf, grown, used, usedBy, recharged, rackMoves, usesOne, uses, callReply, nextReply, rackMeaning, CountsUses}
 
 -- eight charges of at most 3
 record Charged (s : List ℕ) : Type 0 where
@@ -34,9 +36,9 @@ recharged-charged s (Some d) c =
     let in-it : d % 8 < length s = omega arith in
     let at-it = getD-set-same s (d % 8) n 0 in-it in
     record {
-  eight = length-set s (d % 8) n ∙ c .eight;
-  low = λ k. let a = getD-set-other s (d % 8) k n 0 in let b = c .low k in let e = cases-eq k (d % 8) in grind arith
-}
+      eight = length-set s (d % 8) n ∙ c .eight;
+      low = λ k. let a = getD-set-other s (d % 8) k n 0 in let b = c .low k in let e = cases-eq k (d % 8) in grind arith;
+    }
 
 step : (h : ℕ) (s : List ℕ) (o : Option ℕ) (u : ℕ) → Charged s → (chargeOf (recharged s o) h + u) % 4 ≡ (chargeOf s h + (usesOne h o + u)) % 4
 step h s None u c = omega arith
@@ -62,9 +64,16 @@ zero-at zero k = refl
 zero-at (suc n) zero = refl
 zero-at (suc n) (suc k) = zero-at n k
 
-pub new-counts : Counts (replicate 8 0)
-unfolding Counts
-new-counts h earlier =
+counts-used : (h : ℕ) (earlier : List Question) → chargeOf (rackMoves (replicate 8 0) earlier) h ≡ uses h earlier % 4
+counts-used h earlier =
     let z = zero-at 8 (h % 8) in
     counted h (replicate 8 0) earlier (record { eight = refl; low = λ k. let z = zero-at 8 k in omega arith })
     ∙ ap (λ n. n % 4) (ap (λ n. n + uses h earlier) z ∙ zero-add (uses h earlier))
+
+pub new-counts : CountsUses (rackMeaning (replicate 8 0))
+new-counts = record {
+  call = λ earlier h args. ap (callReply h) (counts-used h earlier);
+  next = λ earlier h. ap nextReply (counts-used h earlier);
+  send = λ earlier h w. ap nextReply (counts-used h earlier);
+  truth = λ earlier h. ap (λ n. Ok (ltb 0 n)) (counts-used h earlier);
+}

@@ -10,7 +10,7 @@ use lib.ListN.{length, getD, drop, length-drop}
 use lib.Seq.{getD-drop, drop-drop}
 use Rattle.std.proofs.shelf.Tests.{cases-lt, cond-true, cond-false, lt-ltb, le-ltb}
 use Rattle.hosts.specs.declared.tape.Entry.{Entry}
-use Rattle.hosts.specs.Tape.{entryOf, entryLeft, entryReply, takes, tapeMoves, taken, InOrder}
+use Rattle.hosts.specs.Tape.{entryOf, entryLeft, entryReply, takes, tapeMoves, tapeMeaning, taken, InOrder}
 use Rattle.exceptions.specs.Questions.{Question}
 
 module _ (xs : List ℕ) (at : ℕ) where
@@ -29,9 +29,9 @@ module _ (xs : List ℕ) (at : ℕ) where
       let b2 = getD-drop at xs 2 0 in
       let b3 = getD-drop at xs 3 0 in
       let b4 = getD-drop at xs 4 0 in
-      let whole : entryOf (drop at xs) ≡ record { kind = getD (drop at xs) 0 0; number = getD (drop at xs) 1 0 + getD (drop at xs) 2 0 * 256 + getD (drop at xs) 3 0 * 65536 + getD (drop at xs) 4 0 * 16777216 } = cond-false _ _ _ (le-ltb _ 5 long) in
-      ( cc
-      , sym (drop-drop 5 at xs) ∙ sym (cond-false _ _ _ (le-ltb _ 5 long))
+      let whole : entryOf (drop at xs) ≡ record { kind = getD (drop at xs) 0 0; number = getD (drop at xs) 1 0 + getD (drop at xs) 2 0 * 256 + getD (drop at xs) 3 0 * 65536 + getD (drop at xs) 4 0 * 16777216 } = cond-false _ _ _ (le-ltb _ 5 long) in (
+        cc,
+        sym (drop-drop 5 at xs) ∙ sym (cond-false _ _ _ (le-ltb _ 5 long)),
       )
 
 -- what is left of under five bytes has no entry
@@ -63,6 +63,6 @@ unfolding taken
 ordered s [] = refl
 ordered s (q ∷ earlier) = ordered (cond (takes q) (entryLeft s) s) earlier ∙ skipped s (takes q) (taken earlier)
 
-pub in-order : (s : List ℕ) → InOrder s s
+pub in-order : (s : List ℕ) → InOrder s (tapeMeaning s)
 unfolding InOrder
 in-order s earlier q = ap (λ x. entryReply x q) (ordered s earlier)

@@ -4,7 +4,7 @@ use mathlib.Core.Path.{_≡_}
 use mathlib.Core.Bool.{Bool, cond}
 use mathlib.Core.List.{List, [], _∷_}
 use lib.Dec.{eqb, ltb}
-use lib.ListN.{getD, set}
+use lib.ListN.{getD, set, replicate}
 use Rattle.std.specs.declared.option.Option.{Option}
 use Rattle.std.specs.declared.option.Option.the-variants.{Some, None}
 use Rattle.std.specs.declared.result.Result.{Result}
@@ -29,7 +29,8 @@ use Rattle.exceptions.specs.Questions.{
   AnswerTo,
   kindNumber,
 }
-use Rattle.exceptions.specs.World.{Meaning}
+use Rattle.exceptions.specs.World.{Meaning, World}
+use Rattle.exceptions.specs.Links.{tabled, unlinked}
 
 -- the charge of a handle's device
 abbrev pub chargeOf : List ℕ → ℕ → ℕ
@@ -46,11 +47,12 @@ used charges h = set charges (h % 8) (grown (chargeOf charges h))
 abbrev pub gives : {A : Type 0} → A → (ℕ → A) → ℕ → A
 gives fallen grew n = cond (eqb n 3) fallen (grew (n + 1))
 
-abbrev pub callReply : List ℕ → ℕ → Result ℕ ℕ
-callReply charges f = gives (Err (f % 8)) Ok (chargeOf charges f)
+-- a call raises the device's number where it falls, an iterator stops without a value
+abbrev pub callReply : ℕ → ℕ → Result ℕ ℕ
+callReply h n = gives (Err (h % 8)) Ok n
 
-abbrev pub nextReply : List ℕ → ℕ → Result PyIterReturn ℕ
-nextReply charges v = gives (Ok (StopIteration None)) (λ n. Ok (Return n)) (chargeOf charges v)
+abbrev pub nextReply : ℕ → Result PyIterReturn ℕ
+nextReply n = gives (Ok (StopIteration None)) (λ c. Ok (Return c)) n
 
 -- call, next and send use their first argument's device
 abbrev pub usedBy : Question → Option ℕ
@@ -78,14 +80,14 @@ abbrev pub rackReply : List ℕ → (q : Question) → AnswerTo q
 rackReply s Signal = Ok tt
 rackReply s (Truth v) = Ok (ltb 0 (chargeOf s v))
 rackReply s (Iterate v) = Ok v
-rackReply s (Next v) = nextReply s v
-rackReply s (Call f args) = callReply s f
+rackReply s (Next v) = nextReply (chargeOf s v)
+rackReply s (Call f args) = callReply f (chargeOf s f)
 rackReply s (EnterOf v) = Ok (Some v)
 rackReply s (ExitOf v) = Ok v
 rackReply s (Instantiate v) = Ok (v % 8)
 rackReply s (ValueOf e) = e
 rackReply s (Split e) = (e, e, e)
-rackReply s (Send v w) = nextReply s v
+rackReply s (Send v w) = nextReply (chargeOf s v)
 rackReply s (Fail kind a) = kindNumber kind % 8
 rackReply s (Trace e index row) = tt
 
@@ -98,6 +100,14 @@ rackMoves s (q ∷ earlier) = rackMoves (recharged s (usedBy q)) earlier
 abbrev pub rackMeaning : List ℕ → Meaning
 rackMeaning s earlier q = rackReply (rackMoves s earlier) q
 
+-- what a rack means by its charges and its links
+abbrev pub rackWorld : List ℕ → List (Option ℕ) → World
+rackWorld charges contexts = record { links = tabled contexts; meaning = rackMeaning charges }
+
+-- at first no device has a charge, and no exception a context
+abbrev pub newRack : World
+newRack = record { links = unlinked; meaning = rackMeaning (replicate 8 0) }
+
 -- how often these questions use the device of h
 abbrev pub usesOne : ℕ → Option ℕ → ℕ
 usesOne h None = 0
@@ -107,6 +117,9 @@ unfoldable pub uses : ℕ → List Question → ℕ
 uses h [] = 0
 uses h (q ∷ earlier) = usesOne h (usedBy q) + uses h earlier
 
--- the charge of a device is the number of times that it was used, mod 4
-unfoldable pub Counts : List ℕ → Type 0
-Counts charges = (h : ℕ) (earlier : List Question) → chargeOf (rackMoves charges earlier) h ≡ uses h earlier % 4
+-- the answers go by how often a device was used before: its charge is that number, mod 4
+pub record CountsUses (m : Meaning) : Type 0 where
+  pub call : (earlier : List Question) (h : ℕ) (args : List ℕ) → m earlier (Call h args) ≡ callReply h (uses h earlier % 4)
+  pub next : (earlier : List Question) (h : ℕ) → m earlier (Next h) ≡ nextReply (uses h earlier % 4)
+  pub send : (earlier : List Question) (h w : ℕ) → m earlier (Send h w) ≡ nextReply (uses h earlier % 4)
+  pub truth : (earlier : List Question) (h : ℕ) → m earlier (Truth h) ≡ Ok (ltb 0 (uses h earlier % 4))

@@ -29,7 +29,8 @@ use Rattle.exceptions.specs.Questions.{
   Trace,
   AnswerTo,
 }
-use Rattle.exceptions.specs.World.{Meaning}
+use Rattle.exceptions.specs.World.{Meaning, World}
+use Rattle.exceptions.specs.Links.{tabled, unlinked}
 
 -- the entry at the front of the tape: kind 0 and number 0 where under five bytes are left
 unfoldable pub entryOf : List ℕ → Entry
@@ -100,12 +101,20 @@ tapeMoves s (q ∷ earlier) = tapeMoves (cond (takes q) (entryLeft s) s) earlier
 abbrev pub tapeMeaning : List ℕ → Meaning
 tapeMeaning s earlier q = entryReply (entryOf (tapeMoves s earlier)) q
 
+-- what a tape means by the bytes still to be read and its links
+abbrev pub tapeWorld : List ℕ → List (Option ℕ) → World
+tapeWorld s contexts = record { links = tabled contexts; meaning = tapeMeaning s }
+
+-- at first the whole tape is to be read, and no exception has a context
+abbrev pub newTape : List ℕ → World
+newTape tape = record { links = unlinked; meaning = tapeMeaning tape }
+
 -- how many entries a list of questions takes
 unfoldable pub taken : List Question → ℕ
 taken [] = 0
 taken (q ∷ earlier) = cond (takes q) 1 0 + taken earlier
 
 -- questions are answered by the entries of the tape in their order: after n entries taken, by the one at byte 5 n
-unfoldable pub InOrder : List ℕ → List ℕ → Type 0
-InOrder tape s =
-    (earlier : List Question) (q : Question) → tapeMeaning s earlier q ≡ entryReply (entryOf (drop (taken earlier * 5) tape)) q
+unfoldable pub InOrder : List ℕ → Meaning → Type 0
+InOrder tape m =
+    (earlier : List Question) (q : Question) → m earlier q ≡ entryReply (entryOf (drop (taken earlier * 5) tape)) q

@@ -1,10 +1,8 @@
 ghost use mathlib.Core.Path.{_≡_};
 ghost use Prim.Native.Nat.{ℕ, _≤_};
-ghost use lib.ListN.{getD, replicate};
+ghost use lib.ListN.{getD};
 ghost use Rattle.std.specs.declared.option.Option.the-variants.{Some, None};
-ghost use Rattle.exceptions.specs.Links.{tabled, unlinked};
-ghost use Rattle.exceptions.specs.World.{World};
-ghost use Rattle.hosts.specs.Rack.{rackMeaning, chargeOf, used, gives, Counts};
+ghost use Rattle.hosts.specs.Rack.{rackMeaning, rackWorld, newRack, chargeOf, used, gives, CountsUses};
 use crate::host::Host;
 use exceptions::links::LinkTable;
 use exceptions::questions::FailKind;
@@ -24,7 +22,7 @@ pub impl Exceptions for Rack as RackExceptions {
 
     ghost limit = { 8 };
 
-    ghost world = { λ s. record { links = tabled (s .links .contexts); meaning = rackMeaning (s .charges) } };
+    ghost world = { λ s. rackWorld (s .charges) (s .links .contexts) };
 
     fn how_many() -> u16 {
         Self::EXCEPTIONS
@@ -110,9 +108,8 @@ pub impl Host for Rack as RackHost {
 impl Rack {
     // No device has a charge, and no exception a context.
     pub fn new() -> Self
-        ensures charges { λ r. ⌜ r .charges ≡ replicate 8 0 ⌝ }
-        ensures counts { λ r. ⌜ Counts (r .charges) ⌝ }
-        ensures links { λ r. ⌜ tabled (r .links .contexts) ≡ unlinked ⌝ }
+        ensures new { λ r. ⌜ rackWorld (r .charges) (r .links .contexts) ≡ newRack ⌝ }
+        ensures counts { λ r. ⌜ CountsUses (rackMeaning (r .charges)) ⌝ }
     {
         Rack {
             charges: [0; 8],

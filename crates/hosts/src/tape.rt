@@ -1,9 +1,7 @@
 ghost use mathlib.Core.Path.{_≡_};
 ghost use denote.Ref.{now};
 ghost use lib.ListN.{drop};
-ghost use Rattle.exceptions.specs.Links.{tabled, unlinked};
-ghost use Rattle.exceptions.specs.World.{World};
-ghost use Rattle.hosts.specs.Tape.{tapeMeaning, entryOf, entryLeft, raising, InOrder};
+ghost use Rattle.hosts.specs.Tape.{tapeMeaning, tapeWorld, newTape, entryOf, entryLeft, raising, InOrder};
 use crate::host::Host;
 use exceptions::links::LinkTable;
 use exceptions::questions::FailKind;
@@ -20,7 +18,7 @@ pub struct Tape<'a> {
 
 // What a question takes off the tape.
 #[derive(Clone, Copy)]
-pub struct Entry {
+struct Entry {
     kind: u8,
     number: u32,
 }
@@ -30,7 +28,7 @@ pub impl<'a> Exceptions for Tape<'a> as TapeExceptions {
 
     ghost limit = { 64 };
 
-    ghost world = { λ s. record { links = tabled (s .links .contexts); meaning = tapeMeaning (drop (s .at) (now (s .bytes))) } };
+    ghost world = { λ s. tapeWorld (drop (s .at) (now (s .bytes))) (s .links .contexts) };
 
     fn how_many() -> u16
         ensures { λ r. ⌜ r ≡ 64 ⌝ }
@@ -127,9 +125,8 @@ pub impl<'a> Host for Tape<'a> as TapeHost {
 impl<'a> Tape<'a> {
     // The whole tape is still to be read, and no exception has a context.
     pub fn new(bytes: &'a [u8]) -> Tape<'a>
-        ensures tape { λ r. ⌜ drop (r .at) (now (r .bytes)) ≡ now (bytes .entry) ⌝ }
-        ensures order { λ r. ⌜ InOrder (now (bytes .entry)) (drop (r .at) (now (r .bytes))) ⌝ }
-        ensures links { λ r. ⌜ tabled (r .links .contexts) ≡ unlinked ⌝ }
+        ensures new { λ r. ⌜ tapeWorld (drop (r .at) (now (r .bytes))) (r .links .contexts) ≡ newTape (now (bytes .entry)) ⌝ }
+        ensures order { λ r. ⌜ InOrder (now (bytes .entry)) (tapeMeaning (drop (r .at) (now (r .bytes)))) ⌝ }
     {
         Tape {
             bytes,

@@ -23,11 +23,11 @@ returns-in-rest g c =
 pub returns-then-c-e : need.returns-then-c-e
 returns-then-c-e g c =
     let not : linkable (g .X·Exceptions .limit) (c .args .e) (c .in-Some .c) ≡ false =
-        elim (c .then-c-e .came) [
-            then-c-e·by·then-c-e w ↦ grind (arith, tells)
-            | then-c-e·by·else-c-e·then-c-how-many w ↦ grind (arith, tells)
-            | then-c-e·by·else-c-e·else-c-how-many·then-e-how-many w ↦ grind (arith, tells)
-        ] in
+    elim (c .then-c-e .came) [
+      | then-c-e·by·then-c-e w ↦ grind (arith, tells)
+      | then-c-e·by·else-c-e·then-c-how-many w ↦ grind (arith, tells)
+      | then-c-e·by·else-c-e·else-c-how-many·then-e-how-many w ↦ grind (arith, tells)
+    ] in
     let a = answered-not (g .X·Exceptions .limit) (g .X·Exceptions .world (c .args .x .now) .links) (c .args .e) _ (c .in-Some .c) (sym (c .in-Some .ensures tt .told)) not in
     let left = ap (λ f. withLinks f (g .X·Exceptions .world (c .args .x .now))) (a .1) in
     let all = left-chains (g .X·Exceptions .limit) (levelsOf (c .args .levels .now)) (c .args .e) 0 _ _ (c .vouch .ensures) (a .0) left in
@@ -41,7 +41,7 @@ pub set-context-requires : need.set-context-requires
 set-context-requires g c κs = record {
   below = omega arith;
   target = omega arith;
-  opens = owed-link _ _ _ _ (c .vouch .ensures) (omega arith) (c .if-c-e .left) (c .follow-walk .result) (c .follow-walk .ensures) _ (c .strike .ensures)
+  opens = owed-link _ _ _ _ (c .vouch .ensures) (omega arith) (c .if-c-e .left) (c .follow-walk .result) (c .follow-walk .ensures) _ (c .strike .ensures);
 }
 
 pub returns : need.returns

@@ -9,5 +9,5 @@ pub set-context-requires : need.set-context-requires
 set-context-requires g c κs = record {
   below = subst (λ (o : Option ℕ). Cases o (Unit {0}) (λ y. y < g .X·Exceptions .limit)) (c .in-Some .is) (c .pre);
   target = tt;
-  opens = cut-ringless _ _ (c .vouch .ensures .ringless)
+  opens = cut-ringless _ _ (c .vouch .ensures .ringless);
 }

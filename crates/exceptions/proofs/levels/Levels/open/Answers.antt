@@ -37,11 +37,12 @@ index-self-level c = grind (arith, length-upto)
 pub ghost-self : need.ghost-self
 unfolding levelCount
 ghost-self c =
-    let few : c .args .self .now .opened + 1 < 16 = grind (arith, length-upto) in
-    ( few
-    , ( set-within _ _ _ _ (omega arith) (held-below _ _ (sym (c .if-not-can-hold .ensures tt))) (c .args .self .now .below)
-      , tt
-      )
+    let few : c .args .self .now .opened + 1 < 16 = grind (arith, length-upto) in (
+      few,
+      (
+        set-within _ _ _ _ (omega arith) (held-below _ _ (sym (c .if-not-can-hold .ensures tt))) (c .args .self .now .below),
+        tt,
+      ),
     )
 
 pub returns : need.returns

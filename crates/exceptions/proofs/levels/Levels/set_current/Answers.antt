@@ -8,12 +8,13 @@ use Rattle.exceptions.proofs.Tabling.{set-within}
 use Rattle.exceptions.proofs.levels.Levels.set_current.Needs as need
 
 pub ghost-self : need.ghost-self
-ghost-self c =
-    ( c .args .self .now .few
-    , ( set-within _ _ _ _ (omega arith) (held-below _ _ (sym (c .if-can-hold .ensures tt))) (c .args .self .now .below)
-      , tt
-      )
-    )
+ghost-self c = (
+  c .args .self .now .few,
+  (
+    set-within _ _ _ _ (omega arith) (held-below _ _ (sym (c .if-can-hold .ensures tt))) (c .args .self .now .below),
+    tt,
+  ),
+)
 
 pub returns-then-can-hold : need.returns-then-can-hold
 unfolding currentLeft

@@ -20,5 +20,5 @@ loop-i-again c = let t = topmost-less (c .args .self .now .held) (c .loop-i .i) 
 pub returns : need.returns
 returns c = record {
   told = sym (topmost-end (c .args .self .now .held) (c .loop-i .i) (c .loop-i-test .left)) ∙ c .loop-i .inv;
-  below = tt
+  below = tt;
 }
