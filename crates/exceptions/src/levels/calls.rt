@@ -7,6 +7,9 @@ use super::LevelToken;
 use super::Levels;
 use super::OpenRefused;
 
+// How many levels there can be at once.
+const MOST_LEVELS: u8 = 16;
+
 impl Levels {
     pub fn new(exceptions: u16) -> Self
         ensures { λ r. ⌜ levelsOf r ≡ firstLevel exceptions ⌝ }
@@ -54,7 +57,8 @@ impl Levels {
         ensures { λ _. ⌜ levelsOf (now (self .exit)) ≡ currentLeft e (levelsOf (now (self .entry))) ⌝ }
     {
         if self.can_hold(e) {
-            self.held[self.opened as usize] = e;
+            let last = self.opened as usize;
+            self.held[last] = e;
         }
     }
 
@@ -63,7 +67,7 @@ impl Levels {
         ensures left { λ _. ⌜ levelsOf (now (self .exit)) ≡ openLeft e (levelsOf (now (self .entry))) ⌝ }
         ensures undone { λ r. ⌜ Opened (levelsOf (now (self .entry))) (levelsOf (now (self .exit))) r ⌝ }
     {
-        if self.count() == 16 {
+        if self.count() == MOST_LEVELS {
             return Err(OpenRefused::TooManyLevels);
         }
         if !self.can_hold(e) {

@@ -14,9 +14,9 @@ use Rattle.exceptions.proofs.Standing.{length-upto, upto-more, upto-set, held-
 use Rattle.exceptions.proofs.Tabling.{set-within}
 use Rattle.exceptions.proofs.levels.Levels.open.Needs as need
 
-pub returns-then-count-eq16 : need.returns-then-count-eq16
+pub returns-then-count-eq-MOST-LEVELS : need.returns-then-count-eq-MOST-LEVELS
 unfolding openOut openLeft
-returns-then-count-eq16 c =
+returns-then-count-eq-MOST-LEVELS c =
     let s : LevelList = levelsOf (c .args .self .now) in
     let told : Err TooManyLevels ≡ openOut (c .args .e) s = grind (arith, tells) in
     let left : s ≡ openLeft (c .args .e) s = grind (arith, tells) in
