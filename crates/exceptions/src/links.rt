@@ -34,6 +34,7 @@ impl<const N: usize> LinkTable<N> {
         requires opens { ⌜ Ringless (linked (tabled (now self .contexts)) e c) ⌝ }
         ensures { λ _. ⌜ tabled (now (self .exit) .contexts) ≡ linked (tabled (now (self .entry) .contexts)) e c ⌝ }
     {
-        self.contexts[e as usize] = c;
+        let at = e as usize;
+        self.contexts[at] = c;
     }
 }
