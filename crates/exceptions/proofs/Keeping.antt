@@ -2,6 +2,7 @@
 use mathlib.Core.Path.{_≡_, refl, sym, ap, subst, _∙_}
 use mathlib.Core.Logic.{_⊎_, inl, inr, ⊎-elim}
 use mathlib.Core.Bool.{Bool, true, false, cond}
+use mathlib.Core.List.{_∷_}
 use Prim.Native.Nat.{ℕ, zero, suc, _+_, _-_, _≤_, _<_}
 use native.Mathlib.Numerals.{add-one}
 use native.Mathlib.Omega.{arith}
@@ -16,7 +17,8 @@ use Rattle.exceptions.specs.Links.{Links, linked, hop, hops, Ringless, Within}
 use Rattle.exceptions.specs.Linking.{further, hopped, walkFrom, cutting, relinked, linkable, contextualized, followedBy, linkOut, linkLeft}
 use Rattle.exceptions.specs.Chaining.{Handled, Precedes, Apart, Reaches, Linked, Chains, Implicit-chaining}
 use Rattle.exceptions.specs.Levels.{LevelList, topmostOf}
-use Rattle.exceptions.specs.World.{World, Lawful, withLinks, relinking}
+use Rattle.exceptions.specs.World.{World, Lawful, asked, withLinks, relinking}
+use Rattle.exceptions.specs.Questions.{Question}
 use Rattle.exceptions.proofs.Rings.{
   hops-none,
   hops-below,
@@ -268,3 +270,24 @@ module _ (limit : ℕ) (w : World) (e c : ℕ) (lawful : Lawful limit w) (low : 
       subst (λ v. Answered limit (w .links) e (topmostOf s) (v .followed) (linked (cutting (w .links) (v .cut)) e (Some c))) (sym is)
       (answered-linked limit (w .links) e (topmostOf s) c p linkable-so) in
       (a .0, r ∙ (ap (relinking e (Some c)) q ∙ ap (λ f. withLinks f w) (a .1)))
+
+-- a question and linking leave a lawful host lawful
+pub asked-lawful : (limit : ℕ) (q : Question) (w : World) → Lawful limit w → Lawful limit (asked q w)
+asked-lawful limit q w lawful = record {
+  some = lawful .some;
+  most = lawful .most;
+  ringless = lawful .ringless;
+  within = lawful .within;
+  below = λ earlier. lawful .below (q ∷ earlier);
+}
+
+pub link-lawful : (limit : ℕ) (s : LevelList) (e : ℕ) (w : World) → Lawful limit w → Lawful limit (linkLeft limit s e w)
+link-lawful limit s e w lawful =
+    let keeps = linking-keeps limit (w .links) e (lawful .some) (lawful .ringless) (lawful .within) (topmostOf s) in
+    record {
+      some = lawful .some;
+      most = lawful .most;
+      ringless = keeps .ringless;
+      within = keeps .within;
+      below = lawful .below;
+    }

@@ -1,5 +1,5 @@
-mod Keeping
-mod Rings
-mod Standing
+pub mod Keeping
+pub mod Rings
+pub mod Standing
 mod Tabling
 mod Walking

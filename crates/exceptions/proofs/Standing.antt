@@ -1,13 +1,14 @@
 -- The levels in their array.
 use mathlib.Core.Path.{_≡_, refl, sym, ap, _∙_}
-use mathlib.Core.Bool.{true}
+use mathlib.Core.Bool.{Bool, true, false, cond, _&&_}
 use mathlib.Core.List.{List, [], _∷_}
 use Prim.Native.Nat.{ℕ, zero, suc, _+_, _-_, _≤_, _<_}
 use native.Mathlib.Numerals.{add-one}
 use native.Mathlib.Omega.{arith}
+use lib.Dec.{ltb}
 use lib.ListN.{length, getD, set}
 use lib.Seq.{getD-set-other}
-use Rattle.std.proofs.shelf.Tests.{ltb-true}
+use Rattle.std.proofs.shelf.Tests.{ltb-true, lt-ltb, and-parts}
 use Rattle.std.specs.Options.{Cases}
 use Rattle.std.specs.declared.option.Option.{Option}
 use Rattle.std.specs.declared.option.Option.the-variants.{Some, None}
@@ -21,6 +22,8 @@ use Rattle.exceptions.specs.Levels.{
   LevelList,
   upto,
   holdable,
+  AllHoldable,
+  HeldBelow,
   orElse,
   topmostIn,
   levelCount,
@@ -30,7 +33,10 @@ use Rattle.exceptions.specs.Levels.{
   closeOut,
   closeLeft,
   Closed,
+  closed,
+  currentLeft,
 }
+use Rattle.exceptions.specs.Links.{Within, tabled}
 
 pub length-upto : (xs : List (Option ℕ)) (n : ℕ) → length (upto xs n) ≡ n
 unfolding upto
@@ -80,3 +86,42 @@ pub close-once : (t : LevelToken) (s after : LevelList) (r : Result Unit CloseRe
 unfolding Closed closeOut closeLeft levelCount
 close-once t s after (Ok u) p q = grind (arith, tells)
 close-once t s after (Err x) p q = grind (arith, tells)
+
+holdable-read : (limit : ℕ) (o : Option ℕ) → ((y : ℕ) → o ≡ Some y → y < limit) → holdable limit o ≡ true
+holdable-read limit None h = refl
+holdable-read limit (Some e) h = lt-ltb e limit (h e refl)
+
+holdable-upto : (limit : ℕ) (xs : List (Option ℕ)) (n : ℕ) → Within limit (tabled xs) → AllHoldable limit (upto xs n)
+unfolding upto
+holdable-upto limit xs zero h = tt
+holdable-upto limit xs (suc n) h = (holdable-read limit (getD xs n None) (h n), holdable-upto limit xs n h)
+
+pub table-below : (limit : ℕ) (xs : List (Option ℕ)) (n : ℕ) → Within limit (tabled xs) → HeldBelow (record { exceptions = limit; last = getD xs n None; lower = upto xs n })
+unfolding HeldBelow
+table-below limit xs n h = (holdable-read limit (getD xs n None) (h n), holdable-upto limit xs n h)
+
+-- no call lets an exception too high onto a level
+cond-below : (b : Bool) (s t : LevelList) → (b ≡ true → HeldBelow t) → HeldBelow s → HeldBelow (cond b t s)
+cond-below true s t h below = h refl
+cond-below false s t h below = below
+
+pub open-below : (e : Option ℕ) (s : LevelList) → HeldBelow s → HeldBelow (openLeft e s)
+unfolding HeldBelow openLeft
+open-below e s below =
+    let room : Bool = ltb (levelCount s) 16 in
+    let fits : Bool = holdable (s .exceptions) e in
+    let opened : LevelList = record { exceptions = s .exceptions; last = e; lower = s .last ∷ s .lower } in
+    cond-below (room && fits) s opened (λ p. (and-parts room fits p .1, below)) below
+
+pub current-below : (e : Option ℕ) (s : LevelList) → HeldBelow s → HeldBelow (currentLeft e s)
+unfolding HeldBelow currentLeft
+current-below e s below = cond-below _ s _ (λ p. (p, below .1)) below
+
+closed-below : (limit : ℕ) (l : Option ℕ) (ls : List (Option ℕ)) → AllHoldable limit (l ∷ ls) → HeldBelow (closed limit l ls)
+unfolding HeldBelow
+closed-below limit l [] below = below
+closed-below limit l (k ∷ ls) below = below .1
+
+pub close-below : (t : LevelToken) (s : LevelList) → HeldBelow s → HeldBelow (closeLeft t s)
+unfolding HeldBelow closeLeft
+close-below t s below = cond-below _ s _ (λ p. closed-below (s .exceptions) (s .last) (s .lower) below) below

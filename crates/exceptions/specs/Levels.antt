@@ -54,6 +54,14 @@ abbrev pub holdable : ℕ → Option ℕ → Bool
 holdable limit None = true
 holdable limit (Some e) = ltb e limit
 
+abbrev pub AllHoldable : ℕ → List (Option ℕ) → Type 0
+AllHoldable limit [] = Unit {0}
+AllHoldable limit (l ∷ ls) = (holdable limit l ≡ true) × AllHoldable limit ls
+
+-- every level holds an exception below the number that the levels are made for, or none
+unfoldable pub HeldBelow : LevelList → Type 0
+HeldBelow s = AllHoldable (s .exceptions) (s .last ∷ s .lower)
+
 -- open is refused where 16 levels exist, then where the exception is too high, and else gives the new level's number
 unfoldable pub openOut : Option ℕ → LevelList → Result LevelToken OpenRefused
 openOut e s =

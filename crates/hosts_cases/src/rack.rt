@@ -10,40 +10,51 @@ use std::test::*;
 #[test]
 fn a_call_falls_after_three() -> Result<(), Fail> {
     let mut rack = Rack::new();
-    check_eq(rack.call(13, &[])?, 1)?;
-    check_eq(rack.call(5, &[13])?, 2)?;
-    check_eq(rack.call(13, &[])?, 3)?;
-    check_eq(rack.truth(21)?, true)?;
-    check_eq(rack.call(21, &[]), Err(5))?;
+    let given = [
+        rack.call(13, &[])?,
+        rack.call(5, &[13])?,
+        rack.call(21, &[])?,
+    ];
+    check_eq(given, [1, 2, 3])?;
+    check_eq(rack.call(13, &[]), Err(5))?;
     check_eq(rack.truth(5)?, false)
 }
 
 #[test]
-fn iterators_stop_without_a_value() -> Result<(), Fail> {
+fn an_iterator_stops_without_a_value() -> Result<(), Fail> {
     let mut rack = Rack::new();
-    check_eq(rack.next(2)?, PyIterReturn::Return(1))?;
-    check_eq(rack.send(2, 9)?, PyIterReturn::Return(2))?;
-    check_eq(rack.next(10)?, PyIterReturn::Return(3))?;
-    check_eq(rack.next(2)?, PyIterReturn::StopIteration(None))?;
-    check_eq(rack.send(2, 9)?, PyIterReturn::Return(1))?;
-    check_eq(rack.truth(9)?, false)
-}
-
-#[test]
-fn a_send_falls_too() -> Result<(), Fail> {
-    let mut rack = Rack::new();
-    check_eq(rack.send(7, 2)?, PyIterReturn::Return(1))?;
-    check_eq(rack.send(7, 2)?, PyIterReturn::Return(2))?;
-    check_eq(rack.send(7, 2)?, PyIterReturn::Return(3))?;
-    check_eq(rack.send(7, 2)?, PyIterReturn::StopIteration(None))
+    let given = [
+        rack.next(2)?,
+        rack.send(10, 9)?,
+        rack.next(2)?,
+        rack.next(10)?,
+    ];
+    let first = [
+        PyIterReturn::Return(1),
+        PyIterReturn::Return(2),
+        PyIterReturn::Return(3),
+        PyIterReturn::StopIteration(None),
+    ];
+    check_eq(given, first)?;
+    let sent = [
+        rack.send(2, 9)?,
+        rack.send(2, 9)?,
+        rack.send(2, 9)?,
+        rack.send(2, 9)?,
+    ];
+    check_eq(sent, first)
 }
 
 #[test]
 fn other_answers_are_the_first_argument() -> Result<(), Fail> {
     let mut rack = Rack::new();
-    check_eq(rack.signal(), Ok(()))?;
     check_eq(rack.enter_of(9)?, Some(9))?;
-    check_eq(rack.instantiate(9)?, 1)?;
-    check_eq(rack.split(7), [7, 7, 7])?;
-    check_eq(rack.fail(FailKind::NothingToReraise, 9), 4)
+    check_eq(
+        [
+            rack.instantiate(9)?,
+            rack.fail(FailKind::NothingToReraise, 9),
+        ],
+        [1, 4],
+    )?;
+    check_eq(rack.split(7), [7, 7, 7])
 }

@@ -1,7 +1,7 @@
 ghost use mathlib.Core.Path.{_≡_};
 ghost use Prim.Native.Nat.{_<_};
 ghost use Rattle.std.specs.Options.{Cases};
-ghost use Rattle.exceptions.specs.Levels.{levelsOf, firstLevel, levelCount, topmostOf, holdable, openOut, openLeft, Opened, closeOut, closeLeft, Closed, currentLeft, openRefusal, closeRefusal};
+ghost use Rattle.exceptions.specs.Levels.{levelsOf, firstLevel, levelCount, topmostOf, holdable, HeldBelow, openOut, openLeft, Opened, closeOut, closeLeft, Closed, currentLeft, openRefusal, closeRefusal};
 use super::CloseRefused;
 use super::LevelToken;
 use super::Levels;
@@ -27,6 +27,11 @@ impl Levels {
     {
         self.exceptions
     }
+
+    // Does nothing, and says what always holds: no level holds an exception too high.
+    pub fn vouch(&self)
+        ensures { λ _. ⌜ HeldBelow (levelsOf (now (self .entry))) ⌝ }
+    {}
 
     pub fn count(&self) -> u8
         ensures { λ r. ⌜ r ≡ levelCount (levelsOf (now (self .entry))) ⌝ }
