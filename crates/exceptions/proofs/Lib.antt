@@ -1,0 +1,5 @@
+pub mod Keeping
+pub mod Rings
+pub mod Standing
+mod Tabling
+mod Walking
