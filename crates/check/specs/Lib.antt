@@ -1,0 +1,4 @@
+pub mod Climbing
+pub mod Effects
+pub mod Reading
+pub mod Rules
