@@ -1,4 +1,5 @@
 pub mod Climbing
 pub mod Effects
+pub mod Nodes
 pub mod Reading
 pub mod Rules

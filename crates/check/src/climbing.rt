@@ -17,15 +17,15 @@ pub struct Landing {
 }
 
 // Whether at most 32 nodes lead to the bottom, the node itself counted.
-pub fn within(table: &Table<'_>, node: u16) -> bool
-    ensures { λ r. ⌜ r ≡ within (parts (now (table .entry))) 32 node ⌝ }
+pub fn within(table: &Table<'_>, number: usize) -> bool
+    ensures { λ r. ⌜ r ≡ within (parts (now (table .entry))) 32 number ⌝ }
 {
-    let mut at = node;
+    let mut at = number;
     for _step in 0..32u8 {
         if at == 0 {
             return true;
         }
-        at = node_for(table, at).parent;
+        at = node_for(table, at).parent as usize;
     }
     at == 0
 }
@@ -47,7 +47,7 @@ pub fn climb(table: &Table<'_>, node: u16, depth: u16) -> Landing
     let mut at = node;
     let mut deep = depth as i32;
     for _step in 0..32u8 {
-        let here = node_for(table, at);
+        let here = node_for(table, at as usize);
         if same_kind(here.kind, NodeKind::Loop) {
             return Landing {
                 node: at,

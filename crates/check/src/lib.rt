@@ -5,5 +5,6 @@
 // Its page is docs/check.md.
 mod climbing;
 mod effects;
+mod nodes;
 mod reading;
 pub mod rules;

@@ -8,10 +8,10 @@ use table::records::NodeKindPartialEq;
 use table::records::Shape;
 use table::tables::Table;
 
-pub fn node_for(table: &Table<'_>, number: u16) -> Node
+pub fn node_for(table: &Table<'_>, number: usize) -> Node
     ensures { λ r. ⌜ r ≡ nodeFor (parts (now (table .entry))) number ⌝ }
 {
-    match table.node(number as usize) {
+    match table.node(number) {
         Some(node) => node,
         None => Node {
             kind: NodeKind::Unknown(0),

@@ -1,4 +1,4 @@
-use Prim.Native.Nat.{_-_}
+use Prim.Native.Nat.{_-_, _<_}
 use lib.IntN.{pos}
 use mathlib.Core.Path.{_≡_}
 use Rattle.check.specs.Climbing.{arriving, nearest}
@@ -10,3 +10,4 @@ abbrev pub Inv-loop-step : given.InvT-loop-step
 Inv-loop-step l =
     (nearest (parts (l .table)) (32 - l .-step) (l .at) ≡ nearest (parts (l .table)) 32 (l .node))
     × (arriving (parts (l .table)) (32 - l .-step) (l .at) (l .deep) ≡ arriving (parts (l .table)) 32 (l .node) (pos (l .depth)))
+    × (l .at < 65536)

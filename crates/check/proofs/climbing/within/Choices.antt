@@ -6,4 +6,4 @@ use Rattle.check.proofs.climbing.within.Given as given
 
 -- what is left to climb ends as the whole does
 abbrev pub Inv-loop-step : given.InvT-loop-step
-Inv-loop-step l = within (parts (l .table)) (32 - l .-step) (l .at) ≡ within (parts (l .table)) 32 (l .node)
+Inv-loop-step l = within (parts (l .table)) (32 - l .-step) (l .at) ≡ within (parts (l .table)) 32 (l .number)
