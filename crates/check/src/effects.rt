@@ -1,7 +1,9 @@
 // What each instruction takes from the stack and gives to it where it goes on to the next one.
+ghost use lib.IntN.{pos, negsuc};
+ghost use lib.Signed.{_≤ℤ_};
 ghost use mathlib.Core.Path.{_≡_};
 ghost use Prim.Native.Nat.{_≤_};
-ghost use Rattle.check.specs.Effects.{effect, gives, needs, raises, takes};
+ghost use Rattle.check.specs.Effects.{depthAfter, effect, gives, needs, raises, takes};
 use table::instructions::Instruction;
 use table::instructions::RaiseKind;
 
@@ -52,9 +54,18 @@ pub fn gives(op: Instruction) -> u32
 
 // The net change of depth: from -255 to +1.
 pub fn effect(op: Instruction) -> i32
-    ensures { λ r. ⌜ r ≡ effect op ⌝ }
+    ensures value { λ r. ⌜ r ≡ effect op ⌝ }
+    ensures low_bound { λ r. ⌜ negsuc 65535 ≤ℤ r ⌝ }
+    ensures high_bound { λ r. ⌜ r ≤ℤ pos 2 ⌝ }
 {
     gives(op) as i32 - takes(op) as i32
+}
+
+// The depth with which the next instruction is reached.
+pub fn depth_after(depth: u16, op: Instruction) -> i32
+    ensures { λ r. ⌜ r ≡ depthAfter depth op ⌝ }
+{
+    depth as i32 + effect(op)
 }
 
 // How many values have to stand on the stack, whatever the level.

@@ -3,8 +3,10 @@
 // It rests on the crate table, reads the table in place and allocates nothing.
 // specs/NodeRules.antt and specs/ShapeRules.antt are the rules, specs/Passed.antt says what the check's answer means.
 // Its page is docs/check.md.
+mod arrivals;
 mod climbing;
 mod effects;
 mod nodes;
 mod reading;
 pub mod rules;
+mod shapes;
