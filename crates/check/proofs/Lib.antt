@@ -1,1 +1,7 @@
 mod Climbs
+mod Law
+mod NodesSay
+mod Says
+mod ShapesSay
+mod Tellings
+mod Turns

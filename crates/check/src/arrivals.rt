@@ -73,7 +73,13 @@ fn child(table: &Table<'_>, at: usize) -> Node
 }
 
 // The next instruction is reached with this depth, in a child node of this kind whose level is the depth here.
-pub fn opens(table: &Table<'_>, at: usize, shape: Shape, kind: NodeKind, depth: i32) -> Result<(), Rule>
+pub fn opens(
+    table: &Table<'_>,
+    at: usize,
+    shape: Shape,
+    kind: NodeKind,
+    depth: i32,
+) -> Result<(), Rule>
     requires { ⌜ at < instructionCount (parts (now table)) ⌝ }
     ensures { λ r. ⌜ r ≡ opens (parts (now (table .entry))) at shape kind depth ⌝ }
 {

@@ -4,6 +4,8 @@
 // specs/NodeRules.antt and specs/ShapeRules.antt are the rules, specs/Passed.antt says what the check's answer means.
 // Its page is docs/check.md.
 mod arrivals;
+pub mod broken;
+pub mod checking;
 mod climbing;
 mod effects;
 mod nodes;

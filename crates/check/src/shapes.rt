@@ -107,7 +107,13 @@ fn jumps(table: &Table<'_>, shape: Shape, op: Instruction, target: u16) -> Resul
     arrives(table, Way::Target, target as usize, depth, shape.node)
 }
 
-fn jump_if(table: &Table<'_>, at: usize, shape: Shape, op: Instruction, target: u16) -> Result<(), Rule>
+fn jump_if(
+    table: &Table<'_>,
+    at: usize,
+    shape: Shape,
+    op: Instruction,
+    target: u16,
+) -> Result<(), Rule>
     requires { ⌜ at < instructionCount (parts (now table)) ⌝ }
     ensures { λ r. ⌜ r ≡ jumpIf (parts (now (table .entry))) at shape op target ⌝ }
 {
@@ -116,7 +122,13 @@ fn jump_if(table: &Table<'_>, at: usize, shape: Shape, op: Instruction, target: 
 }
 
 // The iterator stays for the next item; the target is reached without it.
-fn for_iter(table: &Table<'_>, at: usize, shape: Shape, op: Instruction, target: u16) -> Result<(), Rule>
+fn for_iter(
+    table: &Table<'_>,
+    at: usize,
+    shape: Shape,
+    op: Instruction,
+    target: u16,
+) -> Result<(), Rule>
     requires { ⌜ at < instructionCount (parts (now table)) ⌝ }
     ensures { λ r. ⌜ r ≡ forIter (parts (now (table .entry))) at shape op target ⌝ }
 {
@@ -142,7 +154,13 @@ fn setup_loop(table: &Table<'_>, at: usize, shape: Shape, op: Instruction) -> Re
     opens(table, at, shape, NodeKind::Loop, depth)
 }
 
-fn setup_except(table: &Table<'_>, at: usize, shape: Shape, op: Instruction, handler: u16) -> Result<(), Rule>
+fn setup_except(
+    table: &Table<'_>,
+    at: usize,
+    shape: Shape,
+    op: Instruction,
+    handler: u16,
+) -> Result<(), Rule>
     requires { ⌜ at < instructionCount (parts (now table)) ⌝ }
     ensures { λ r. ⌜ r ≡ setsUpExcept (parts (now (table .entry))) at shape op handler ⌝ }
 {
@@ -152,7 +170,14 @@ fn setup_except(table: &Table<'_>, at: usize, shape: Shape, op: Instruction, han
 }
 
 // SetupFinally puts up a Finally of end 0, SetupWith one of end 1.
-fn setup_finally(table: &Table<'_>, at: usize, shape: Shape, op: Instruction, end: u8, handler: u16) -> Result<(), Rule>
+fn setup_finally(
+    table: &Table<'_>,
+    at: usize,
+    shape: Shape,
+    op: Instruction,
+    end: u8,
+    handler: u16,
+) -> Result<(), Rule>
     requires { ⌜ at < instructionCount (parts (now table)) ⌝ }
     ensures { λ r. ⌜ r ≡ setsUpFinally (parts (now (table .entry))) at shape op end handler ⌝ }
 {
@@ -162,7 +187,13 @@ fn setup_finally(table: &Table<'_>, at: usize, shape: Shape, op: Instruction, en
     child_handler(table, at, handler)
 }
 
-fn enter_finally(table: &Table<'_>, at: usize, shape: Shape, op: Instruction, end: u8) -> Result<(), Rule>
+fn enter_finally(
+    table: &Table<'_>,
+    at: usize,
+    shape: Shape,
+    op: Instruction,
+    end: u8,
+) -> Result<(), Rule>
     requires { ⌜ at < instructionCount (parts (now table)) ⌝ }
     ensures { λ r. ⌜ r ≡ entersFinally (parts (now (table .entry))) at shape op end ⌝ }
 {
@@ -188,7 +219,13 @@ fn end_finally(table: &Table<'_>, at: usize, own: Node) -> Result<(), Rule>
     leaves(table, at, own)
 }
 
-fn with_cleanup_start(table: &Table<'_>, at: usize, shape: Shape, op: Instruction, own: Node) -> Result<(), Rule>
+fn with_cleanup_start(
+    table: &Table<'_>,
+    at: usize,
+    shape: Shape,
+    op: Instruction,
+    own: Node,
+) -> Result<(), Rule>
     requires { ⌜ at < instructionCount (parts (now table)) ⌝ }
     ensures { λ r. ⌜ r ≡ startsCleanup (parts (now (table .entry))) at shape op own ⌝ }
 {
@@ -247,7 +284,13 @@ fn break_loop(table: &Table<'_>, shape: Shape, target: u16) -> Result<(), Rule>
     let landing = climb(table, shape.node, shape.depth);
     demand(landing.node != 0, Rule::LoopStands)?;
     let found = node_for(table, landing.node as usize);
-    arrives(table, Way::Target, target as usize, found.level as i32, found.parent)
+    arrives(
+        table,
+        Way::Target,
+        target as usize,
+        found.level as i32,
+        found.parent,
+    )
 }
 
 // The nearest Loop stays, and the blocks above it go.
@@ -256,7 +299,13 @@ fn continue_loop(table: &Table<'_>, shape: Shape, target: u16) -> Result<(), Rul
 {
     let landing = climb(table, shape.node, shape.depth);
     demand(landing.node != 0, Rule::LoopStands)?;
-    arrives(table, Way::Target, target as usize, landing.depth, landing.node)
+    arrives(
+        table,
+        Way::Target,
+        target as usize,
+        landing.depth,
+        landing.node,
+    )
 }
 
 // Where an instruction leads.
@@ -291,7 +340,8 @@ fn leads(table: &Table<'_>, at: usize, shape: Shape, op: Instruction) -> Result<
         Instruction::PopException => pop_exception(table, at, own),
         Instruction::Break { target } => break_loop(table, shape, target),
         Instruction::Continue { target } => continue_loop(table, shape, target),
-        Instruction::Raise { .. } | Instruction::ReturnValue | Instruction::ReturnConst { .. } => Ok(()),
+        Instruction::Raise { .. } | Instruction::ReturnValue | Instruction::ReturnConst { .. } =>
+            Ok(()),
     }
 }
 
