@@ -1,4 +1,3 @@
-mod Climbs
 mod Law
 mod NodesSay
 mod Says

@@ -5,10 +5,10 @@ use native.Mathlib.Omega.{arith}
 use Rattle.std.proofs.shelf.Ways.{tells}
 use Rattle.std.specs.declared.result.Result.{Result}
 use Rattle.std.specs.declared.result.Result.the-variants.{Ok, Err}
-use Rattle.check.specs.NodeRules.{EndOf, ExceptHandled, FinallyHandled, Handled, HandlerOf, Known, NodeRules, Within}
+use Rattle.rules.specs.NodeRules.{EndOf, ExceptHandled, FinallyHandled, Handled, HandlerOf, Known, NodeRules, Within}
 use Rattle.check.specs.Nodes.{checkingNode, exceptHandled, finallyHandled, handled, handledAs, handling, listed, placed}
-use Rattle.check.specs.Reading.{kindOf, levelOf, nodeFor}
-use Rattle.check.specs.Rules.{_then_}
+use Rattle.rules.specs.Reading.{kindOf, levelOf, nodeFor}
+use Rattle.rules.specs.Rule.{_then_}
 use Rattle.check.proofs.Says.{Says, says-like, says-then}
 use Rattle.check.proofs.Tellings.{kind-tells, within-tells}
 use Rattle.table.specs.Parts.{Parts}
@@ -67,8 +67,16 @@ unfolding checkingNode
 node-says t k =
     says-like _
     (λ p. record {
-      kind = p .0 .0; end = p .0 .1; parent = p .1 .0 .parent; level = p .1 .0 .level; low = p .1 .0 .low; near = p .1 .0 .near;
-      handler = p .1 .1 .0 .0; none = p .1 .1 .0 .1; except = p .1 .1 .1 .0; finally = p .1 .1 .1 .1;
+      kind = p .0 .0;
+      end = p .0 .1;
+      parent = p .1 .0 .parent;
+      level = p .1 .0 .level;
+      low = p .1 .0 .low;
+      near = p .1 .0 .near;
+      handler = p .1 .1 .0 .0;
+      none = p .1 .1 .0 .1;
+      except = p .1 .1 .1 .0;
+      finally = p .1 .1 .1 .1;
     })
     (λ r. ((r .kind, r .end), (record { parent = r .parent; level = r .level; low = r .low; near = r .near }, ((r .handler, r .none), (r .except, r .finally)))))
     (says-then _ _ (listed-says (nodeFor t k)) (says-then _ _ (placed-says t k (nodeFor t k)) (says-then _ _ (handling-says t (nodeFor t k)) (as-says t k (kindOf t k)))))

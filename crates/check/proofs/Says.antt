@@ -3,7 +3,7 @@ use mathlib.Core.Path.{_≡_}
 use native.Mathlib.Omega.{arith}
 use Rattle.std.specs.declared.result.Result.{Result}
 use Rattle.std.specs.declared.result.Result.the-variants.{Ok, Err}
-use Rattle.check.specs.Rules.{_then_}
+use Rattle.rules.specs.Rule.{_then_}
 
 abbrev pub Says : {E : Type 0} → Result Unit E → Type 0 → Type 0
 Says r P = (r ≡ Ok tt → P) × (P → r ≡ Ok tt)

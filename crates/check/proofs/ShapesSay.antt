@@ -8,15 +8,15 @@ use Rattle.std.specs.declared.option.Option.{Option}
 use Rattle.std.specs.declared.option.Option.the-variants.{Some, None}
 use Rattle.std.specs.declared.result.Result.{Result}
 use Rattle.std.specs.declared.result.Result.the-variants.{Ok, Err}
-use Rattle.check.specs.Arrivals.{arrives, childEnd, childHandler, comes, opens, ownEnd, ownKind}
-use Rattle.check.specs.Climbing.{arriving, nearest}
-use Rattle.check.specs.Effects.{depthAfter, needs, takes}
-use Rattle.check.specs.Reading.{depthOf, kindOf, levelOf, nodeFor, nodeOf, parentOf, shapeFor}
-use Rattle.check.specs.Rules.{_then_}
-use Rattle.check.specs.ShapeRules.{Arrives, Breaks, ChildEnd, ChildHandler, Continues, Iterates, Kept, KeptBy, Leads, Leaves, LeavesWith, Next, Opens, OwnEnd, OwnKind, Removable, ShapeRules, Starts, Target}
+use Rattle.rules.specs.Arrivals.{arrives, childEnd, childHandler, comes, opens, ownEnd, ownKind}
+use Rattle.rules.specs.Climbing.{arriving, nearest}
+use Rattle.rules.specs.Effects.{depthAfter, needs, takes}
+use Rattle.rules.specs.Reading.{depthOf, kindOf, levelOf, nodeFor, nodeOf, parentOf, shapeFor}
+use Rattle.rules.specs.Rule.{_then_}
+use Rattle.rules.specs.ShapeRules.{Arrives, Breaks, ChildEnd, ChildHandler, Continues, Iterates, Kept, KeptBy, Leads, Leaves, LeavesWith, Next, Opens, OwnEnd, OwnKind, Removable, ShapeRules, Starts, Target}
 use Rattle.check.specs.Shapes.{affords, breaks, checkingInstruction, continues, endsFinally, entersFinally, finishesCleanup, forIter, judging, jumpIf, jumps, leads, leaves, next, popsBlock, popsException, setsUpExcept, setsUpFinally, setsUpLoop, stands, starts, startsCleanup}
-use Rattle.check.specs.declared.rules.Way.{Way}
-use Rattle.check.specs.declared.rules.Way.the-variants as way
+use Rattle.rules.specs.declared.rule.Way.{Way}
+use Rattle.rules.specs.declared.rule.Way.the-variants as way
 use Rattle.check.proofs.Says.{Says, says-like, says-then}
 use Rattle.check.proofs.Tellings.{depth-tells, kind-tells}
 use Rattle.table.specs.Parts.{Parts}
@@ -189,8 +189,13 @@ judging-says t i None = ((λ h. let z : _≡_ {A = ℕ} 0 1 = cc in omega arith)
 judging-says t i (Some op) =
     says-like _
     (λ p. record {
-      starts = p .0; exists = p .1 .0 .exists; from = p .1 .0 .from; within = p .1 .0 .within;
-      takes = p .1 .1 .0 .0; needs = p .1 .1 .0 .1; leads = p .1 .1 .1;
+      starts = p .0;
+      exists = p .1 .0 .exists;
+      from = p .1 .0 .from;
+      within = p .1 .0 .within;
+      takes = p .1 .1 .0 .0;
+      needs = p .1 .1 .0 .1;
+      leads = p .1 .1 .1;
     })
     (λ r. (r .starts, (record { exists = r .exists; from = r .from; within = r .within }, ((r .takes, r .needs), r .leads))))
     (says-then _ _ (starts-says t i) (says-then _ _ (stands-says t (shapeFor t i)) (says-then _ _ (affords-says t (shapeFor t i) op) (leads-says t i (shapeFor t i) op))))

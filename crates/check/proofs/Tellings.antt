@@ -7,10 +7,10 @@ use mathlib.Core.Logic.{_⊎_, inl, inr}
 use mathlib.Core.Path.{_≡_, refl}
 use native.Mathlib.Omega.{arith}
 use Rattle.std.proofs.shelf.Ways.{tells}
-use Rattle.check.specs.Arrivals.{isDepth}
-use Rattle.check.specs.Climbing.{within}
-use Rattle.check.specs.NodeRules.{Within}
-use Rattle.check.specs.Reading.{parentOf, sameKind}
+use Rattle.rules.specs.Arrivals.{isDepth}
+use Rattle.rules.specs.Climbing.{within}
+use Rattle.rules.specs.NodeRules.{Within}
+use Rattle.rules.specs.Reading.{parentOf, sameKind}
 use Rattle.table.specs.Parts.{Parts}
 use Rattle.table.specs.declared.records.NodeKind.{NodeKind}
 use Rattle.table.specs.declared.records.NodeKind.the-variants.{Loop, TryExcept, Finally, FinallyHandler, ExceptHandler, Unknown}

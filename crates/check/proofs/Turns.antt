@@ -6,7 +6,7 @@ use native.Mathlib.Numerals.{unary-clauses}
 use Rattle.std.specs.declared.result.Result.{Result}
 use Rattle.std.specs.declared.result.Result.the-variants.{Ok}
 use Rattle.check.specs.Checking.{inTurn}
-use Rattle.check.specs.Rules.{_then_}
+use Rattle.rules.specs.Rule.{_then_}
 use Rattle.check.specs.declared.broken.Broken.{Broken}
 
 pub turn-none : (test : ℕ → Result Unit Broken) (i n : ℕ) → n ≡ 0 → inTurn test i n ≡ Ok tt

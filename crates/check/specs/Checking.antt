@@ -3,11 +3,11 @@ use Prim.Native.Nat.{ℕ, zero, suc, _+_}
 use Rattle.std.specs.declared.result.Result.{Result}
 use Rattle.std.specs.declared.result.Result.the-variants.{Ok, Err}
 use Rattle.check.specs.Nodes.{checkingNode}
-use Rattle.check.specs.Rules.{_then_}
+use Rattle.rules.specs.Rule.{_then_}
 use Rattle.check.specs.Shapes.{checkingInstruction}
 use Rattle.check.specs.declared.broken.Broken.{Broken}
 use Rattle.check.specs.declared.broken.Broken.the-variants.{Node, Instruction}
-use Rattle.check.specs.declared.rules.Rule.{Rule}
+use Rattle.rules.specs.declared.rule.Rule.{Rule}
 use Rattle.table.specs.Parts.{Parts}
 use Rattle.table.specs.Reading.{instructionCount, nodeCount}
 

@@ -1,12 +1,5 @@
-pub mod Arrivals
 pub mod Broken
 pub mod Checking
-pub mod Climbing
-pub mod Effects
-pub mod NodeRules
 pub mod Nodes
 pub mod Passed
-pub mod Reading
-pub mod Rules
-pub mod ShapeRules
 pub mod Shapes

@@ -4,13 +4,13 @@ use mathlib.Core.Bool.{Bool, true, false, _||_}
 use lib.Dec.{eqb, leb, ltb}
 use Rattle.std.specs.declared.result.Result.{Result}
 use Rattle.std.specs.declared.result.Result.the-variants.{Ok}
-use Rattle.check.specs.Climbing.{within}
-use Rattle.check.specs.Reading.{levelOf, nodeFor, sameKind, shapeFor}
-use Rattle.check.specs.Rules.{_then_, demand}
-use Rattle.check.specs.declared.rules.Rule.{Rule}
-use Rattle.check.specs.declared.rules.Rule.the-variants.{EndListed, HandlerDepth, HandlerExists, HandlerWithinMaximum, KnownKind, LevelFromParent, LevelWithinMaximum, NoHandler, NodesToBottom, ParentBelow}
-use Rattle.check.specs.declared.rules.Rule.the-variants as rule
-use Rattle.check.specs.declared.rules.Whose.the-variants as whose
+use Rattle.rules.specs.Climbing.{within}
+use Rattle.rules.specs.Reading.{levelOf, nodeFor, sameKind, shapeFor}
+use Rattle.rules.specs.Rule.{_then_, demand}
+use Rattle.rules.specs.declared.rule.Rule.{Rule}
+use Rattle.rules.specs.declared.rule.Rule.the-variants.{EndListed, HandlerDepth, HandlerExists, HandlerWithinMaximum, KnownKind, LevelFromParent, LevelWithinMaximum, NoHandler, NodesToBottom, ParentBelow}
+use Rattle.rules.specs.declared.rule.Rule.the-variants as rule
+use Rattle.rules.specs.declared.rule.Whose.the-variants as whose
 use Rattle.table.specs.Parts.{Parts}
 use Rattle.table.specs.Reading.{instructionCount}
 use Rattle.table.specs.declared.records.Node.{Node}

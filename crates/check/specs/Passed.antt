@@ -2,8 +2,8 @@
 use Prim.Native.Nat.{ℕ, _<_, _≤_}
 use Rattle.std.specs.declared.result.Result.{Result}
 use Rattle.std.specs.declared.result.Result.the-variants.{Ok, Err}
-use Rattle.check.specs.NodeRules.{NodeRules}
-use Rattle.check.specs.ShapeRules.{ShapeRules}
+use Rattle.rules.specs.NodeRules.{NodeRules}
+use Rattle.rules.specs.ShapeRules.{ShapeRules}
 use Rattle.check.specs.declared.broken.Broken.{Broken}
 use Rattle.check.specs.declared.broken.Broken.the-variants.{Node, Instruction}
 use Rattle.table.specs.Parts.{Parts}

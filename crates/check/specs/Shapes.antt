@@ -7,14 +7,14 @@ use Rattle.std.specs.declared.option.Option.{Option}
 use Rattle.std.specs.declared.option.Option.the-variants.{Some, None}
 use Rattle.std.specs.declared.result.Result.{Result}
 use Rattle.std.specs.declared.result.Result.the-variants.{Ok, Err}
-use Rattle.check.specs.Arrivals.{arrives, childEnd, childHandler, opens, ownEnd, ownKind}
-use Rattle.check.specs.Climbing.{arriving, nearest}
-use Rattle.check.specs.Effects.{depthAfter, needs, takes}
-use Rattle.check.specs.Reading.{levelOf, nodeFor, parentOf, shapeFor}
-use Rattle.check.specs.Rules.{_then_, demand}
-use Rattle.check.specs.declared.rules.Rule.{Rule}
-use Rattle.check.specs.declared.rules.Rule.the-variants.{AboveParent, Decodes, DepthFromLevel, DepthWithinMaximum, LoopStands, NodeExists, Removable, TakesAboveLevel, ValuesNeeded}
-use Rattle.check.specs.declared.rules.Way.the-variants as way
+use Rattle.rules.specs.Arrivals.{arrives, childEnd, childHandler, opens, ownEnd, ownKind}
+use Rattle.rules.specs.Climbing.{arriving, nearest}
+use Rattle.rules.specs.Effects.{depthAfter, needs, takes}
+use Rattle.rules.specs.Reading.{levelOf, nodeFor, parentOf, shapeFor}
+use Rattle.rules.specs.Rule.{_then_, demand}
+use Rattle.rules.specs.declared.rule.Rule.{Rule}
+use Rattle.rules.specs.declared.rule.Rule.the-variants.{AboveParent, Decodes, DepthFromLevel, DepthWithinMaximum, LoopStands, NodeExists, Removable, TakesAboveLevel, ValuesNeeded}
+use Rattle.rules.specs.declared.rule.Way.the-variants as way
 use Rattle.table.specs.Parts.{Parts}
 use Rattle.table.specs.Reading.{instructionAt, nodeCount}
 use Rattle.table.specs.declared.instructions.Instruction.{Instruction}

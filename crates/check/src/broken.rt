@@ -1,11 +1,10 @@
 // What the check refuses: each case has its number and its place, and names the rule that is broken there.
 ghost use mathlib.Core.Path.{_≡_};
 ghost use Rattle.check.specs.Broken.{numberOf, placeOf};
-use crate::rules::Rule;
-use crate::rules::RuleDebug;
-use crate::rules::RulePartialEq;
+use rules::rule::Rule;
+use rules::rule::RuleDebug;
 
-#[derive(Clone, Copy, PartialEq, Eq, Debug)]
+#[derive(Clone, Copy, Debug)]
 pub enum Broken {
     // 10: a node breaks a rule
     Node { number: usize, rule: Rule },

@@ -1,9 +1,0 @@
-use borrow.Author.Needs.{needs}
-use native.Mathlib.Omega.{arith}
-use Rattle.std.proofs.shelf.Ways.{tells}
-use Rattle.check.specs.Reading.{sameKind}
-use Rattle.check.proofs.reading.same_kind.Needs as need
-
-pub returns : need.returns
-unfolding sameKind
-returns c = grind (arith, tells)
