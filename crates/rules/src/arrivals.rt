@@ -111,6 +111,7 @@ pub fn opens(
     )
 }
 
+// The child's handler is the one that the instruction names.
 pub fn child_handler(table: &Table<'_>, at: usize, handler: u16) -> Result<(), Rule>
     requires { ⌜ at < instructionCount (parts (now table)) ⌝ }
     ensures { λ r. ⌜ r ≡ childHandler (parts (now (table .entry))) at handler ⌝ }
@@ -126,6 +127,7 @@ pub fn child_handler(table: &Table<'_>, at: usize, handler: u16) -> Result<(), R
     )
 }
 
+// The child's end is that of the instruction.
 pub fn child_end(table: &Table<'_>, at: usize, end: u8) -> Result<(), Rule>
     requires { ⌜ at < instructionCount (parts (now table)) ⌝ }
     ensures { λ r. ⌜ r ≡ childEnd (parts (now (table .entry))) at end ⌝ }
@@ -141,6 +143,7 @@ pub fn child_end(table: &Table<'_>, at: usize, end: u8) -> Result<(), Rule>
     )
 }
 
+// The block that an instruction ends or looks at is of its kind.
 pub fn own_kind(own: Node, kind: NodeKind) -> Result<(), Rule>
     ensures { λ r. ⌜ r ≡ ownKind own kind ⌝ }
 {

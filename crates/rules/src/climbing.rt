@@ -9,6 +9,9 @@ use table::records::Node;
 use table::records::NodeKind;
 use table::tables::Table;
 
+// The most nodes from a block to the bottom.
+const MOST_NODES: u8 = 32;
+
 // Where a continue comes out: the nearest Loop (0 for none), and the depth at which it is reached.
 #[derive(Clone, Copy)]
 pub struct Landing {
@@ -21,7 +24,7 @@ pub fn within(table: &Table<'_>, number: usize) -> bool
     ensures { λ r. ⌜ r ≡ within (parts (now (table .entry))) 32 number ⌝ }
 {
     let mut at = number;
-    for _step in 0..32u8 {
+    for _step in 0..MOST_NODES {
         if at == 0 {
             return true;
         }
@@ -40,13 +43,14 @@ fn leaving(node: Node) -> i32
     }
 }
 
+// From a node to the nearest Loop, as a break or a continue goes.
 pub fn climb(table: &Table<'_>, node: u16, depth: u16) -> Landing
     ensures found { λ r. ⌜ r .node ≡ nearest (parts (now (table .entry))) 32 node ⌝ }
     ensures reached { λ r. ⌜ r .depth ≡ arriving (parts (now (table .entry))) 32 node (pos depth) ⌝ }
 {
     let mut at = node;
     let mut deep = depth as i32;
-    for _step in 0..32u8 {
+    for _step in 0..MOST_NODES {
         let here = node_for(table, at as usize);
         if same_kind(here.kind, NodeKind::Loop) {
             return Landing {

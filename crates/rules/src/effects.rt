@@ -7,6 +7,7 @@ ghost use Rattle.rules.specs.Effects.{depthAfter, effect, gives, needs, raises
 use table::instructions::Instruction;
 use table::instructions::RaiseKind;
 
+// A raise takes its exception, a reraise nothing.
 fn raises(kind: RaiseKind) -> u32
     ensures { λ r. ⌜ r ≡ raises kind ⌝ }
 {
