@@ -2,9 +2,8 @@
 ghost use mathlib.Core.Path.{_≡_};
 ghost use Rattle.check.specs.Broken.{numberOf, placeOf};
 use rules::rule::Rule;
-use rules::rule::RuleDebug;
 
-#[derive(Clone, Copy, Debug)]
+#[derive(Clone, Copy)]
 pub enum Broken {
     // 10: a node breaks a rule
     Node { number: usize, rule: Rule },

@@ -2,10 +2,9 @@
 ghost use mathlib.Core.Path.{_≡_};
 ghost use Rattle.rules.specs.Rule.{demand};
 use table::records::NodeKind;
-use table::records::NodeKindDebug;
 
 // How control comes to an instruction: as the frame's first, from the one before, or by a jump.
-#[derive(Clone, Copy, Debug)]
+#[derive(Clone, Copy)]
 pub enum Way {
     Start,
     Next,
@@ -13,14 +12,14 @@ pub enum Way {
 }
 
 // Whose node a rule speaks of: the instruction's own, the one that it puts up, or that of a node's handler.
-#[derive(Clone, Copy, Debug)]
+#[derive(Clone, Copy)]
 pub enum Whose {
     Own,
     Child,
     Handler,
 }
 
-#[derive(Clone, Copy, Debug)]
+#[derive(Clone, Copy)]
 pub enum Rule {
     // a node's kind is one of the five
     KnownKind {

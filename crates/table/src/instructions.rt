@@ -3,20 +3,20 @@ ghost use mathlib.Core.Path.{_≡_};
 ghost use Rattle.table.specs.Instructions.{Decoded, bare, decoding, encoding, raiseNumber, flag, listed, raiseKind, under, word};
 
 // An instruction as it stands in the bytes.
-#[derive(Clone, Copy, PartialEq, Eq, Debug)]
+#[derive(Clone, Copy)]
 pub struct Word {
     pub opcode: u8,
     pub x: u8,
     pub y: u16,
 }
 
-#[derive(Clone, Copy, PartialEq, Eq, Debug)]
+#[derive(Clone, Copy)]
 pub enum RaiseKind {
     Reraise,
     Raise,
 }
 
-#[derive(Clone, Copy, PartialEq, Eq, Debug)]
+#[derive(Clone, Copy)]
 pub enum Instruction {
     LoadConst { idx: u16 },
     LoadFast { idx: u16 },
@@ -49,7 +49,7 @@ pub enum Instruction {
 }
 
 // What the table has of each thing that an operand can name.
-#[derive(Clone, Copy, PartialEq, Eq, Debug)]
+#[derive(Clone, Copy)]
 pub struct Limits {
     pub instructions: usize,
     pub constants: usize,

@@ -6,14 +6,14 @@ use crate::fields::u16_at;
 use crate::fields::u32_at;
 
 // A part's place in the bytes, as its pair gives it.
-#[derive(Clone, Copy, PartialEq, Eq, Debug)]
+#[derive(Clone, Copy)]
 pub struct Span {
     pub offset: u32,
     pub length: u32,
 }
 
 // The header: four numbers and the five parts' places, as they stand in the bytes.
-#[derive(Clone, Copy, PartialEq, Eq, Debug)]
+#[derive(Clone, Copy)]
 pub struct Layout {
     pub maximum: u16,
     pub locals: u16,

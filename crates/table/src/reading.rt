@@ -21,10 +21,10 @@ impl Table<'_> {
     }
 
     // How many local variables the table uses.
-    pub fn locals(&self) -> u16
+    pub fn locals(&self) -> usize
         ensures { λ r. ⌜ r ≡ parts (now (self .entry)) .locals ⌝ }
     {
-        self.locals
+        self.locals as usize
     }
 
     pub fn instruction_count(&self) -> usize
@@ -51,7 +51,7 @@ impl Table<'_> {
         Limits {
             instructions: self.instruction_count(),
             constants: self.constant_count(),
-            locals: self.locals as usize,
+            locals: self.locals(),
         }
     }
 

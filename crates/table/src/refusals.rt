@@ -2,14 +2,10 @@
 ghost use mathlib.Core.Path.{_≡_};
 ghost use Rattle.table.specs.Refusals.{numberOf, placeOf};
 use crate::instructions::Limits;
-use crate::instructions::LimitsDebug;
-use crate::instructions::LimitsPartialEq;
 use crate::instructions::Word;
-use crate::instructions::WordDebug;
-use crate::instructions::WordPartialEq;
 
 // The parts of a table, in the order of their pairs.
-#[derive(Clone, Copy, PartialEq, Eq, Debug)]
+#[derive(Clone, Copy)]
 pub enum Part {
     Instructions,
     Shapes,
@@ -19,7 +15,7 @@ pub enum Part {
 }
 
 // The numbers at the head of a table, in their order.
-#[derive(Clone, Copy, PartialEq, Eq, Debug)]
+#[derive(Clone, Copy)]
 pub enum Field {
     MaximumDepth,
     Locals,
@@ -27,7 +23,7 @@ pub enum Field {
     PairCount,
 }
 
-#[derive(Clone, Copy, PartialEq, Eq, Debug)]
+#[derive(Clone, Copy)]
 pub enum Refusal {
     // 1: fewer than 48 bytes or more than 65,536
     Size {

@@ -1,0 +1,8 @@
+use Rattle.std.specs.Of.String.{string-bytes}
+use Rattle.listing.specs.Explained.{endsText}
+use Rattle.listing.proofs.Made.{made-same}
+use Rattle.listing.proofs.explained.ends.Needs as need
+
+pub returns : need.returns
+unfolding endsText
+returns c = made-same string-bytes _ _ _ (c .format .ensures .made) (cc)

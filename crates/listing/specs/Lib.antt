@@ -1,0 +1,5 @@
+pub mod Columns
+pub mod Explained
+pub mod Lines
+pub mod Names
+pub mod Reports
