@@ -1,6 +1,6 @@
 -- The check's answer is the first broken place, or there is none.
 use Prim.Native.Nat.{ℕ, zero, suc, _+_, _<_, _≤_}
-use mathlib.Core.Logic.{⊎-elim}
+use mathlib.Core.Logic.{inl, inr, ⊎-elim}
 use mathlib.Core.Path.{_≡_, refl, subst, sym}
 use native.Mathlib.Omega.{arith}
 use Rattle.std.proofs.shelf.Tests.{cases-eq}
@@ -9,7 +9,7 @@ use Rattle.std.specs.declared.result.Result.the-variants.{Ok, Err}
 use Rattle.check.specs.Checking.{allInstructions, allNodes, checking, inTurn, instructionKept, nodeKept, placing}
 use Rattle.rules.specs.NodeRules.{NodeRules}
 use Rattle.check.specs.Nodes.{checkingNode}
-use Rattle.check.specs.Passed.{Checked, FirstNode, FirstShape, Passed}
+use Rattle.check.specs.Passed.{Checked, FirstNode, FirstShape, Passed, Refused}
 use Rattle.rules.specs.Rule.{_then_}
 use Rattle.rules.specs.ShapeRules.{ShapeRules}
 use Rattle.check.specs.Shapes.{checkingInstruction}
@@ -63,18 +63,24 @@ shapes-walked t =
 
 node-first : (t : Parts) (b : Broken) → Walked Node (NodeRules t) 1 (nodeCount t) (Err b) → Checked t (Err b)
 node-first t b w =
-    subst (λ (x : Broken). Checked t (Err x)) (sym (w .3 .1)) (
-      (λ p. w .4 (p .nodes (w .0) (omega arith) (omega arith))),
-      record { there = (omega arith, omega arith); broken = w .4; before = λ k l h. w .5 k (omega arith) h },
-    )
+    subst (λ (x : Broken). Checked t (Err x)) (sym (w .3 .1))
+    (record {
+      fails = λ p. w .4 (p .nodes (w .0) (omega arith) (omega arith));
+      number = inl refl;
+      node = λ e. record { there = (omega arith, omega arith); broken = w .4; before = λ k l h. w .5 k (omega arith) h };
+      instruction = λ e. absurd (omega arith);
+    })
 
 shape-first : (t : Parts) (b : Broken) → ((k : ℕ) → 1 ≤ k → k < 1 + nodeCount t → NodeRules t k) →
     Walked Instruction (ShapeRules t) 0 (instructionCount t) (Err b) → Checked t (Err b)
 shape-first t b n w =
-    subst (λ (x : Broken). Checked t (Err x)) (sym (w .3 .1)) (
-      (λ p. w .4 (p .shapes (w .0) (omega arith))),
-      record { there = omega arith; broken = w .4; before = λ k h. w .5 k (omega arith) h; nodes = λ k l h. n k (omega arith) (omega arith) },
-    )
+    subst (λ (x : Broken). Checked t (Err x)) (sym (w .3 .1))
+    (record {
+      fails = λ p. w .4 (p .shapes (w .0) (omega arith));
+      number = inr refl;
+      node = λ e. absurd (omega arith);
+      instruction = λ e. record { there = omega arith; broken = w .4; before = λ k h. w .5 k (omega arith) h; nodes = λ k l h. n k (omega arith) (omega arith) };
+    })
 
 both : (t : Parts) (a r : Result Unit Broken) → Walked Node (NodeRules t) 1 (nodeCount t) a → Walked Instruction (ShapeRules t) 0 (instructionCount t) r → Checked t (a then r)
 both t (Ok u) (Ok v) n s = record { nodes = λ k l h. n k (omega arith) (omega arith); shapes = λ i h. s i (omega arith) (omega arith) }

@@ -1,11 +1,13 @@
 -- What the check's answer means.
 use Prim.Native.Nat.{ℕ, _<_, _≤_}
+use mathlib.Core.Logic.{_⊎_}
+use mathlib.Core.Path.{_≡_}
 use Rattle.std.specs.declared.result.Result.{Result}
 use Rattle.std.specs.declared.result.Result.the-variants.{Ok, Err}
 use Rattle.rules.specs.NodeRules.{NodeRules}
 use Rattle.rules.specs.ShapeRules.{ShapeRules}
+use Rattle.check.specs.Broken.{numberOf, placeOf}
 use Rattle.check.specs.declared.broken.Broken.{Broken}
-use Rattle.check.specs.declared.broken.Broken.the-variants.{Node, Instruction}
 use Rattle.table.specs.Parts.{Parts}
 use Rattle.table.specs.Reading.{instructionCount, nodeCount}
 
@@ -27,8 +29,14 @@ pub record FirstShape (t : Parts) (i : ℕ) : Type 0 where
   pub before : (j : ℕ) → j < i → ShapeRules t j
   pub nodes : (k : ℕ) → 0 < k → k ≤ nodeCount t → NodeRules t k
 
+-- refusal 10 has the first node that breaks a rule for its place, refusal 11 the first instruction
+pub record Refused (t : Parts) (b : Broken) : Type 0 where
+  pub fails : Passed t → ⊥
+  pub number : (numberOf b ≡ 10) ⊎ (numberOf b ≡ 11)
+  pub node : numberOf b ≡ 10 → FirstNode t (placeOf b)
+  pub instruction : numberOf b ≡ 11 → FirstShape t (placeOf b)
+
 -- the law of the check: a table that keeps the rules is passed, and any other is refused at its first broken place
 abbrev pub Checked : Parts → Result Unit Broken → Type 0
 Checked t (Ok u) = Passed t
-Checked t (Err (Node number rule)) = (Passed t → ⊥) × FirstNode t number
-Checked t (Err (Instruction at rule)) = (Passed t → ⊥) × FirstShape t at
+Checked t (Err b) = Refused t b
