@@ -22,6 +22,11 @@ KINDS = {1: "a Loop", 2: "a TryExcept", 3: "a Finally", 4: "a FinallyHandler", 5
 NO_NODE = (0, 0, 0, 0, 0)
 
 
+def full(op):
+    """The instruction's name; Call is short for CallFunctionPositional here."""
+    return "CallFunctionPositional" if op == "Call" else op
+
+
 def name_of(kind):
     return KINDS.get(kind, "no block")
 
@@ -186,7 +191,7 @@ def instruction_broken(t, i):
 def broken(t):
     """All that is broken: nodes ascending, then instructions ascending."""
     return [f"10 at {k}: refused 10 at node {k}: {words}" for k in range(1, len(t.nodes) + 1) for words in node_broken(t, k)] + \
-           [f"11 at {i}: refused 11 at instruction {i}: {words}" for i in range(len(t.code)) for words in instruction_broken(t, i)]
+           [f"11 at {i}: refused 11 at instruction {i} ({full(t.code[i][0])}): {words}" for i in range(len(t.code)) for words in instruction_broken(t, i)]
 
 
 CASES = []
@@ -225,8 +230,8 @@ def refuses(name, kind, place, words, code, nodes=(), maximum=4, also=False, pos
         t = placed(code, list(nodes), maximum, pre, after, before, spare)
         text = eval("f'''" + words + "'''", {"i": pre, "k": before, "n": len(t.code), "m": len(t.nodes)})
         at = place + (before if kind == 10 else pre)
-        where = "node" if kind == 10 else "instruction"
-        put(f"{name}-{label}", t, f"{kind} at {at}: refused {kind} at {where} {at}: {text}", also)
+        where = f"node {at}" if kind == 10 else f"instruction {at} ({full(t.code[at][0])})"
+        put(f"{name}-{label}", t, f"{kind} at {at}: refused {kind} at {where}: {text}", also)
 
 
 def ret(depth=0, node=0):
@@ -482,12 +487,12 @@ def orders():
 
     first("node-before-instruction", [ret(1)], [(6, 0, 0, 0, 0)], "10 at 1: refused 10 at node 1: its kind is 6; expected 1 to 5")
     first("lower-node-first", [ret()], [SPARE, (7, 0, 0, 0, 0), (6, 0, 0, 0, 0)], "10 at 2: refused 10 at node 2: its kind is 7; expected 1 to 5")
-    first("lower-instruction-first", [ret(), ret(6), ret(5)], [], "11 at 1: refused 11 at instruction 1: its depth is 6; expected at most 4, the maximum depth")
+    first("lower-instruction-first", [ret(), ret(6), ret(5)], [], "11 at 1: refused 11 at instruction 1 (ReturnConst): its depth is 6; expected at most 4, the maximum depth")
     code = [("LoadConst", 0, 0, 0), ("SetupExcept", 3, 1, 0), ret(1, 1), ret(2, 2)]
     nodes = [(TRY, 0, 0, 1, 3), (EHANDLER, 0, 0, 1, 0)]
     first("try-at-maximum-1", code, nodes, "10 at 1: refused 10 at node 1: its handler begins with depth 2; expected at most 1, the maximum depth", 1)
     first("try-at-maximum-2", code, nodes, "passed", 2)
-    first("break-alone", [("Break", 0, 0, 0)], [], "11 at 0: refused 11 at instruction 0: the Loop around it is missing; expected one", 1)
+    first("break-alone", [("Break", 0, 0, 0)], [], "11 at 0: refused 11 at instruction 0 (Break): the Loop around it is missing; expected one", 1)
     first("return-alone", [ret()], [], "passed", 1)
     first("finally-entered", [("SetupFinally", 2, 0, 0), ret(0, 1), ("EndFinally", 0, 0, 2), ret()], [(FINALLY, 0, 0, 0, 2), (FHANDLER, 0, 0, 0, 0)], "passed", 1)
     first("continue-for-ever", [("SetupLoop", 0, 0, 0), ("Continue", 1, 0, 1)], [SPARE], "passed", 1)
@@ -502,7 +507,7 @@ def most():
     nodes = [(LOOP, 0, 0, 0, 0)] + [(EHANDLER, 0, j % 31 and j or 0, 0, 0) for j in range(1, 1024)]
     put("largest-table", Table(big, nodes, 256), "passed")
     put("largest-table-last-instruction", Table(big[:-1] + [("Continue", 0, 0, 1)], nodes, 256),
-        "11 at 4095: refused 11 at instruction 4095: the target has node 0; expected 1")
+        "11 at 4095: refused 11 at instruction 4095 (Continue): the target has node 0; expected 1")
     put("largest-table-last-node", Table(big, nodes[:-1] + [(LOOP, 1, 0, 0, 0)], 256), "10 at 1024: refused 10 at node 1024: its end is 1; expected at most 0")
 
 

@@ -40,7 +40,7 @@ fn verdict(heap: Global, bytes: &[u8]) -> Result<String, AllocError> {
             Err(broken) => {
                 let number = broken.number();
                 let place = broken.place();
-                let words = explain(heap, broken)?;
+                let words = explain(heap, &table, broken)?;
                 format!(heap, "{number} at {place}: {words}")
             }
         },

@@ -4,9 +4,12 @@ use mathlib.Core.List.{List, [], _++_}
 use lib.Chars.{codes}
 use lib.IntN.{ℤ}
 use Rattle.std.specs.Written.{decimal, signed}
+use Rattle.std.specs.declared.option.Option.{Option}
+use Rattle.std.specs.declared.option.Option.the-variants.{Some, None}
 use Rattle.check.specs.declared.broken.Broken.{Broken}
 use Rattle.check.specs.declared.broken.Broken.the-variants.{Instruction}
 use Rattle.check.specs.declared.broken.Broken.the-variants as broken
+use Rattle.listing.specs.Names.{nameOf}
 use Rattle.rules.specs.declared.rule.Rule.{Rule}
 use Rattle.rules.specs.declared.rule.Rule.the-variants.{KnownKind, EndListed, ParentBelow, LevelFromParent, LevelWithinMaximum, NodesToBottom, HandlerExists, NoHandler, HandlerDepth, HandlerWithinMaximum, Kind, End, Parent, Level, Decodes, NodeExists, DepthFromLevel, DepthWithinMaximum, TakesAboveLevel, ValuesNeeded, Exists, Depth, Node, Removable, AboveParent, LoopStands}
 use Rattle.rules.specs.declared.rule.Rule.the-variants as rule
@@ -15,6 +18,9 @@ use Rattle.rules.specs.declared.rule.Way.the-variants.{Start, Next, Target}
 use Rattle.rules.specs.declared.rule.Whose.{Whose}
 use Rattle.rules.specs.declared.rule.Whose.the-variants.{Own, Child}
 use Rattle.rules.specs.declared.rule.Whose.the-variants as whose
+use Rattle.table.specs.Parts.{Parts}
+use Rattle.table.specs.Reading.{instructionAt}
+use Rattle.table.specs.declared.instructions.Instruction.{Instruction as Op}
 use Rattle.table.specs.declared.records.NodeKind.{NodeKind}
 use Rattle.table.specs.declared.records.NodeKind.the-variants.{Loop, TryExcept, Finally, FinallyHandler, ExceptHandler, Unknown}
 
@@ -96,7 +102,16 @@ ruleText (Removable found) = named (codes "its node") (kindName found) (codes "a
 ruleText (AboveParent least found) = counted (codes "its node has level") found (codes "more than ") least (codes ", the parent's level")
 ruleText LoopStands = named (codes "the Loop around it") (codes "missing") (codes "one")
 
+-- an instruction that breaks a rule, with its name where it has one
+unfoldable pub instructionText : ℕ → Option Op → Rule → List ℕ
+instructionText at None rule = codes "refused 11 at instruction " ++ (decimal at ++ (codes ": " ++ ruleText rule))
+instructionText at (Some op) rule =
+    codes "refused 11 at instruction " ++ (decimal at ++ (codes " (" ++ (nameOf op ++ (codes "): " ++ ruleText rule))))
+
+unfoldable pub refusedNode : ℕ → Rule → List ℕ
+refusedNode number rule = codes "refused 10 at node " ++ (decimal number ++ (codes ": " ++ ruleText rule))
+
 -- a refusal of the check
-unfoldable pub explanation : Broken → List ℕ
-explanation (broken.Node number rule) = codes "refused 10 at node " ++ (decimal number ++ (codes ": " ++ ruleText rule))
-explanation (Instruction at rule) = codes "refused 11 at instruction " ++ (decimal at ++ (codes ": " ++ ruleText rule))
+unfoldable pub explanation : Parts → Broken → List ℕ
+explanation t (broken.Node number rule) = refusedNode number rule
+explanation t (Instruction at rule) = instructionText at (instructionAt t at) rule

@@ -1,14 +1,18 @@
 ghost use mathlib.Core.Path.{_≡_};
 ghost use Rattle.std.specs.Of.String.{string-bytes};
 ghost use Rattle.std.specs.Vec.{made};
-ghost use Rattle.check_words.specs.Words.{counted, depthText, explanation, kindByte, kindName, missingText, named, nodeText, partText, ruleText, takesText, wayText, whoseText};
+ghost use Rattle.table.specs.Tables.{parts};
+ghost use Rattle.check_words.specs.Words.{counted, depthText, explanation, instructionText, kindByte, kindName, missingText, named, nodeText, partText, refusedNode, ruleText, takesText, wayText, whoseText};
 use check::broken::Broken;
+use listing::names::name;
 use rules::rule::Rule;
 use rules::rule::Way;
 use rules::rule::Whose;
 use std::alloc::AllocError;
 use std::alloc::Global;
+use table::instructions::Instruction;
 use table::records::NodeKind;
+use table::tables::Table;
 
 fn kind_name(kind: NodeKind) -> &'static str
     ensures { λ r. ⌜ now r ≡ kindName kind ⌝ }
@@ -315,18 +319,40 @@ pub fn rule_words(heap: Global, rule: Rule) -> Result<String, AllocError>
     }
 }
 
-// A refusal of the check: number, place and rule.
-pub fn explain(heap: Global, broken: Broken) -> Result<String, AllocError>
-    ensures { λ r. ⌜ made r (λ s. string-bytes s ≡ explanation broken) ⌝ }
+// An instruction that breaks a rule, with its name where it has one.
+fn instruction_words(
+    heap: Global,
+    at: usize,
+    op: Option<Instruction>,
+    rule: Rule,
+) -> Result<String, AllocError>
+    ensures { λ r. ⌜ made r (λ s. string-bytes s ≡ instructionText at op rule) ⌝ }
+{
+    let words = rule_words(heap, rule)?;
+    match op {
+        None => format!(heap, "refused 11 at instruction {at}: {words}"),
+        Some(op) => {
+            let name = name(op);
+            format!(heap, "refused 11 at instruction {at} ({name}): {words}")
+        }
+    }
+}
+
+fn node_refused(heap: Global, number: usize, rule: Rule) -> Result<String, AllocError>
+    ensures { λ r. ⌜ made r (λ s. string-bytes s ≡ refusedNode number rule) ⌝ }
+{
+    let words = rule_words(heap, rule)?;
+    format!(heap, "refused 10 at node {number}: {words}")
+}
+
+// A refusal of the check: number, place, the instruction's name, and the rule.
+pub fn explain(heap: Global, table: &Table<'_>, broken: Broken) -> Result<String, AllocError>
+    ensures { λ r. ⌜ made r (λ s. string-bytes s ≡ explanation (parts (now (table .entry))) broken) ⌝ }
 {
     match broken {
-        Broken::Node { number, rule } => {
-            let words = rule_words(heap, rule)?;
-            format!(heap, "refused 10 at node {number}: {words}")
-        }
+        Broken::Node { number, rule } => node_refused(heap, number, rule),
         Broken::Instruction { at, rule } => {
-            let words = rule_words(heap, rule)?;
-            format!(heap, "refused 11 at instruction {at}: {words}")
+            instruction_words(heap, at, table.instruction(at), rule)
         }
     }
 }
