@@ -2,4 +2,3 @@ pub mod Columns
 pub mod Explained
 pub mod Lines
 pub mod Names
-pub mod Reports

@@ -1,12 +1,12 @@
-// The program: with no argument it lists the job that the repository ships, else the table in the file named.
-// A table that is refused is explained on standard error, and the program ends with status 1.
-// It rests on the crate listing, which builds every text that it prints of a table.
+// The program: with no argument it lists the job that the repository ships, else the table in the file named,
+// and says whether the check passed. What load or the check refuses is explained on standard error, and the program
+// ends with status 1. It rests on the crate reports, which builds every text that it prints of a table.
 // Its page is docs/code-table.md.
 mod job;
 
 use crate::job::JOB;
-use listing::reports::Report;
-use listing::reports::report_on;
+use reports::reports::Report;
+use reports::reports::report_on;
 use std::alloc::AllocError;
 use std::env;
 use std::fs;
@@ -33,12 +33,17 @@ impl From<AllocError> for Failure as FailureFromAlloc {
 
 fn tell(rt: &LibcRuntime, bytes: &[u8]) -> Result<(), Failure> {
     match report_on(rt.alloc(), bytes)? {
-        Report::Listed(text) => {
-            print!(rt, "{text}")?;
+        Report::Passed { listing } => {
+            println!(rt, "{listing}check: passed")?;
             Ok(())
         }
-        Report::Refused(text) => {
-            eprintln!(rt, "{text}")?;
+        Report::Broken { listing, words } => {
+            print!(rt, "{listing}")?;
+            eprintln!(rt, "{words}")?;
+            Err(Failure::Told)
+        }
+        Report::Refused { words } => {
+            eprintln!(rt, "{words}")?;
             Err(Failure::Told)
         }
     }

@@ -1,0 +1,6 @@
+mod Law
+mod NodesSay
+mod Says
+mod ShapesSay
+mod Tellings
+mod Turns
