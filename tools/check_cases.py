@@ -28,7 +28,7 @@ def full(op):
 
 
 def name_of(kind):
-    return KINDS.get(kind, "no block")
+    return KINDS.get(kind, "no known block")
 
 
 class Table:
@@ -270,8 +270,8 @@ def node_rules():
          [(TRY, 0, 0, 4, 1), (EHANDLER, 0, 0, 4, 0)], (ret(), ret(5, 2)), also=True)
     node("except-handler-is-loop", 1, "the node at its handler is a Loop; expected an ExceptHandler", [tried, (LOOP, 0, 0, 0, 0)], (ret(), ret(1, 2)))
     node("except-handler-is-finally-handler", 1, "the node at its handler is a FinallyHandler; expected an ExceptHandler", [tried, (FHANDLER, 0, 0, 0, 0)], (ret(), ret(1, 2)))
-    node("except-handler-without-block", 1, "the node at its handler is no block; expected an ExceptHandler", [tried], (ret(), ret(1, 0)))
-    node("except-handler-of-missing-node", 1, "the node at its handler is no block; expected an ExceptHandler", [tried], (ret(), ret(1, 9)), also=True)
+    node("except-handler-without-block", 1, "the node at its handler is no known block; expected an ExceptHandler", [tried], (ret(), ret(1, 0)))
+    node("except-handler-of-missing-node", 1, "the node at its handler is no known block; expected an ExceptHandler", [tried], (ret(), ret(1, 9)), also=True)
     node("except-handler-of-other-parent", 2, "the node at its handler has parent 0; expected {1 + k}", [SPARE, (TRY, 0, 1, 0, 1), handler], (ret(), ret(1, 3)))
     node("except-handler-of-other-level", 1, "the node at its handler has level 1; expected 0", [tried, (EHANDLER, 0, 0, 1, 0)], (ret(), ret(1, 2)))
 
@@ -425,8 +425,8 @@ def ends_of_blocks():
         code = [ret(), (op, 0, depth, 1), ret(*after)]
         refuses(f"{name}-in-a-loop", 11, 1, f"its node is a Loop; expected {name_of(wanted)}", code, [(LOOP, 0, 0, 2, 0)], also=bool(end))
         refuses(f"{name}-in-the-other-handler", 11, 1, f"its node is {name_of(other)}; expected {name_of(wanted)}", code, [(other, 0, 0, 2, 0)], also=bool(end))
-    refuses("end-finally-without-block", 11, 0, "its node is no block; expected a FinallyHandler", [("EndFinally", 0, 0, 0), ret()])
-    refuses("pop-exception-without-block", 11, 0, "its node is no block; expected an ExceptHandler", [("PopException", 0, 0, 0), ret()])
+    refuses("end-finally-without-block", 11, 0, "its node is no known block; expected a FinallyHandler", [("EndFinally", 0, 0, 0), ret()])
+    refuses("pop-exception-without-block", 11, 0, "its node is no known block; expected an ExceptHandler", [("PopException", 0, 0, 0), ret()])
     refuses("end-finally-of-end-1", 11, 1, "its node has end 1; expected 0", [ret(), ("EndFinally", 0, 2, 1), ret(2)], [(FHANDLER, 1, 0, 2, 0)])
     refuses("cleanup-finish-of-end-0", 11, 1, "its node has end 0; expected 1", [ret(), ("WithCleanupFinish", 0, 2, 1), ret(1)], [(FHANDLER, 0, 0, 2, 0)])
     refuses("cleanup-finish-at-the-parents-level", 11, 1, "its node has level 1; expected more than 1, the parent's level",
@@ -435,7 +435,7 @@ def ends_of_blocks():
             [ret(), ("WithCleanupFinish", 0, 0, 1), ret()], [(FHANDLER, 1, 0, 0, 0)], also=True)
     for kind in (FHANDLER, EHANDLER):
         refuses(f"pop-block-{kind}", 11, 1, f"its node is {name_of(kind)}; expected a Loop, a TryExcept or a Finally", [ret(), ("PopBlock", 0, 2, 1), ret(2)], [(kind, 0, 0, 2, 0)])
-    refuses("pop-block-without-block", 11, 0, "its node is no block; expected a Loop, a TryExcept or a Finally", [("PopBlock", 0, 0, 0), ret()])
+    refuses("pop-block-without-block", 11, 0, "its node is no known block; expected a Loop, a TryExcept or a Finally", [("PopBlock", 0, 0, 0), ret()])
 
 
 def loops():

@@ -30,7 +30,7 @@ kindName TryExcept = codes "a TryExcept"
 kindName Finally = codes "a Finally"
 kindName FinallyHandler = codes "a FinallyHandler"
 kindName ExceptHandler = codes "an ExceptHandler"
-kindName (Unknown byte) = codes "no block"
+kindName (Unknown byte) = codes "no known block"
 
 abbrev pub kindByte : NodeKind → ℕ
 kindByte Loop = 1

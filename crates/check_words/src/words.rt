@@ -23,7 +23,7 @@ fn kind_name(kind: NodeKind) -> &'static str
         NodeKind::Finally => "a Finally",
         NodeKind::FinallyHandler => "a FinallyHandler",
         NodeKind::ExceptHandler => "an ExceptHandler",
-        NodeKind::Unknown(_) => "no block",
+        NodeKind::Unknown(_) => "no known block",
     }
 }
 
