@@ -52,13 +52,13 @@ impl TooManyArguments {
 
 #[derive(Drop)]
 pub struct Frame {
-    exceptions: u16,
-    stack: Stack,
-    locals: [Option<u32>; 64],
-    blocks: BlockTable,
-    index: usize,
-    status: Status,
-    counts: Counts,
+    pub(crate) exceptions: u16,
+    pub(crate) stack: Stack,
+    pub(crate) locals: [Option<u32>; 64],
+    pub(crate) blocks: BlockTable,
+    pub(crate) index: usize,
+    pub(crate) status: Status,
+    pub(crate) counts: Counts,
 }
 
 fn no_counts() -> Counts
