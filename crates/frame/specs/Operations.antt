@@ -7,7 +7,7 @@ use lib.ListN.{length}
 use Rattle.std.specs.declared.result.Result.{Result}
 use Rattle.std.specs.declared.result.Result.the-variants.{Ok, Err}
 use Rattle.frame.specs.Frames.{Held}
-use Rattle.frame.specs.Tables.{lowest}
+use Rattle.frame.specs.Tables.{lowest, rest}
 use Rattle.frame.specs.declared.blocks.Block.{Block}
 use Rattle.frame.specs.declared.blocks.BlockType.{BlockType}
 use Rattle.frame.specs.declared.faults.FaultKind.{FaultKind}
@@ -49,15 +49,11 @@ abbrev pub taken : List ℕ → Result ℕ FaultKind
 taken [] = Err TooFewValues
 taken (v ∷ vs) = Ok v
 
-abbrev pub untaken : List ℕ → List ℕ
-untaken [] = []
-untaken (v ∷ vs) = vs
-
 unfoldable pub popOut : Held → Result ℕ FaultKind
 popOut f = taken (f .stack)
 
 unfoldable pub popLeft : Held → Held
-popLeft f = withStack (untaken (f .stack)) f
+popLeft f = withStack (rest (f .stack)) f
 
 -- a block goes up at the stack's length, if there are fewer than 32
 unfoldable pub putUpOut : Held → Result Unit FaultKind
@@ -75,12 +71,8 @@ abbrev pub cutBy : List ℕ → List Block → List ℕ
 cutBy vs [] = vs
 cutBy vs (b ∷ bs) = cond (leb (b .level) (length vs)) (lowest (b .level) vs) vs
 
-abbrev pub without : List Block → List Block
-without [] = []
-without (b ∷ bs) = bs
-
 unfoldable pub removeOut : Held → Result Block FaultKind
 removeOut f = removed (f .stack) (f .blocks)
 
 unfoldable pub removeLeft : Held → Held
-removeLeft f = withBlocks (without (f .blocks)) (withStack (cutBy (f .stack) (f .blocks)) f)
+removeLeft f = withBlocks (rest (f .blocks)) (withStack (cutBy (f .stack) (f .blocks)) f)
