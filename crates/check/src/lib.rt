@@ -3,6 +3,8 @@
 // It rests on the crates table and rules, reads the table in place and allocates nothing.
 // specs/Passed.antt says what its answer means, specs/Nodes.antt and specs/Shapes.antt the order of the tests.
 // Its page is docs/check.md.
+#![tactic(auto)]
+
 pub mod broken;
 pub mod checking;
 mod nodes;

@@ -2,6 +2,8 @@
 // it prints what the check answers, and for a refusal its number, its place and its words.
 // It rests on the crates table, check and check_words. The lines are written by tools/check_cases.py,
 // which also writes what is expected. Its page is docs/check.md.
+#![tactic(auto)]
+
 use check::checking::check;
 use check_words::words::explain;
 use std::alloc::{AllocError, Global};

@@ -3,4 +3,6 @@
 // It rests on the crates table, rules and check, and every text is the value of a definition in specs/Words.antt.
 // Want of memory is the only way in which its functions fail.
 // Its page is docs/check.md.
+#![tactic(auto)]
+
 pub mod words;

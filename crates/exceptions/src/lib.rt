@@ -3,6 +3,8 @@
 // No ring of links ever arises, a walk over them is shorter than there are exceptions, and each says so in a contract.
 // It rests on std alone; the crate hosts builds the questions themselves and two hosts on it.
 // Its page is docs/links-and-levels.md, and docs/hosts.md has the questions.
+#![tactic(auto)]
+
 pub mod levels;
 pub mod linking;
 pub mod links;

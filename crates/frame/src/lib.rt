@@ -3,6 +3,8 @@
 // Stack and block table are plain structs whose topmost element is changed through their own methods.
 // It rests on nothing but the standard library; specs/Frames.antt says what a frame holds.
 // Its page is docs/frame.md.
+#![tactic(auto)]
+
 pub mod blocks;
 pub mod faults;
 pub mod frames;

@@ -3,6 +3,8 @@
 // The tape answers from bytes that are lent to it, and the rack from the charges of eight devices.
 // It rests on the crate exceptions, which has the questions, the links and the meaning of a host.
 // Its page is docs/hosts.md.
+#![tactic(auto)]
+
 pub mod host;
 pub mod rack;
 pub mod tape;

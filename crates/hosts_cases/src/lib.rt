@@ -3,6 +3,8 @@
 // Devices whose charge falls, for each question that uses one, and links that are made, cut and left alone.
 // It rests on the crates exceptions and hosts.
 // Their pages are docs/hosts.md and docs/links-and-levels.md.
+#![tactic(auto)]
+
 #[cfg(test)]
 mod linking;
 #[cfg(test)]

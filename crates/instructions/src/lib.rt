@@ -3,6 +3,8 @@
 // It rests on the frame, the exceptions, the hosts and unwinding, and of the table only on the kinds of raise.
 // specs/Instructions.antt has a definition for each.
 // Its page is docs/instructions.md.
+#![tactic(auto)]
+
 pub mod control;
 pub mod handlers;
 pub mod managers;

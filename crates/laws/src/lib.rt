@@ -3,3 +3,4 @@
 // It rests on the machine and all below it, and adds nothing that runs.
 // specs/Keeping.antt says what is kept.
 // Its page is docs/laws.md.
+#![tactic(auto)]

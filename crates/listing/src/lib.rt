@@ -3,6 +3,8 @@
 // It rests on the crate table, and every text is the value of a definition: specs/Lines.antt and specs/Explained.antt.
 // Want of memory is the only way in which its functions fail.
 // Its page is docs/code-table.md.
+#![tactic(auto)]
+
 mod columns;
 pub mod explained;
 pub mod lines;

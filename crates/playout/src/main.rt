@@ -2,6 +2,8 @@
 // and says whether the check passed. What load or the check refuses is explained on standard error, and the program
 // ends with status 1. It rests on the crate reports, which builds every text that it prints of a table.
 // Its page is docs/code-table.md.
+#![tactic(auto)]
+
 mod job;
 
 use crate::job::JOB;

@@ -3,6 +3,8 @@
 // answer, every question put to the host, and what each call leaves. With --reference the check and the counts are left out.
 // It rests on the table, the check, the exceptions, the hosts, the frame and the machine's step, and drives that by a loop of its own.
 // A line that cannot be understood is told by its number, and the next is read.
+#![tactic(auto)]
+
 mod calls;
 mod cases;
 mod hex;

@@ -3,4 +3,6 @@
 // It rests on the crates table, check, listing and check_words.
 // Want of memory is the only way in which it fails.
 // Its pages are docs/code-table.md and docs/check.md.
+#![tactic(auto)]
+
 pub mod reports;

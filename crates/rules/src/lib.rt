@@ -3,6 +3,8 @@
 // say what each instruction takes and gives, and try where control comes to. They rest on the crate table and allocate nothing.
 // specs/NodeRules.antt and specs/ShapeRules.antt are the rules themselves, one definition for each.
 // Its page is docs/check.md.
+#![tactic(auto)]
+
 pub mod arrivals;
 pub mod climbing;
 pub mod effects;

@@ -3,6 +3,8 @@
 // It rests on nothing but the standard library, copies no byte of the table and allocates nothing.
 // specs/Loading.antt says what load answers, specs/Lawful.antt which bytes are a table, specs/Reading.antt what the readers answer.
 // Its page is docs/code-table.md.
+#![tactic(auto)]
+
 mod fields;
 mod header;
 pub mod instructions;

@@ -1,6 +1,8 @@
 // A program for tests: each line of standard input names a case and gives the bytes of a table;
 // it prints what load answers, and for a refusal also its words. It rests on the crates table and listing.
 // The lines are written by tools/table_cases.py, which also writes what is expected.
+#![tactic(auto)]
+
 use listing::explained::explain;
 use std::alloc::{AllocError, Global};
 use std::io;

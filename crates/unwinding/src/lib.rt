@@ -3,6 +3,8 @@
 // It rests on the frame, the exceptions and the hosts; it knows no instruction, and of a table only the maximum depth.
 // specs/Unwinding.antt has a clause for each pair of block and reason.
 // Its page is docs/unwinding.md.
+#![tactic(auto)]
+
 pub mod raising;
 pub mod results;
 pub mod unwind;
