@@ -16,4 +16,4 @@ loop-next-preserved g c =
     going_on _ _ _ _ _ _ c.loop-next.invariant _ c.vouch.ensures.within (sym c.in-Some.ensures) c.if-next-e.false
 
 pub returns : goal.returns
-returns g c = going-ended _ _ _ _ _ _ c.loop-next.invariant (sym c.in-default.ensures)
+returns g c = going-ended _ _ _ _ _ _ c.loop-next.invariant (sym c.in_default.ensures)

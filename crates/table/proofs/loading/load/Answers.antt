@@ -4,25 +4,25 @@ use Rattle.table.specs.Tables.{parts}
 use Rattle.table.proofs.Loaded.{loaded}
 use Rattle.table.proofs.loading.load.Goals as goal
 
-pub returns-in-err-sized : goal.returns-in-err-sized
+pub returns-in_err-sized : goal.returns-in_err-sized
 unfolding loading
-returns-in-err-sized c = record { value = search rules; law = loaded c.args.bytes.now _ (search rules) }
+returns-in_err-sized c = record { value = search rules; law = loaded c.args.bytes.now _ (search rules) }
 
-pub returns-in-err-placed : goal.returns-in-err-placed
+pub returns-in_err-placed : goal.returns-in_err-placed
 unfolding loading
-returns-in-err-placed c = record { value = search rules; law = loaded c.args.bytes.now _ (search rules) }
+returns-in_err-placed c = record { value = search rules; law = loaded c.args.bytes.now _ (search rules) }
 
-pub returns-in-err-numbered : goal.returns-in-err-numbered
+pub returns-in_err-numbered : goal.returns-in_err-numbered
 unfolding loading
-returns-in-err-numbered c = record { value = search rules; law = loaded c.args.bytes.now _ (search rules) }
+returns-in_err-numbered c = record { value = search rules; law = loaded c.args.bytes.now _ (search rules) }
 
-pub returns-in-err-measured : goal.returns-in-err-measured
+pub returns-in_err-measured : goal.returns-in_err-measured
 unfolding loading
-returns-in-err-measured c = record { value = search rules; law = loaded c.args.bytes.now _ (search rules) }
+returns-in_err-measured c = record { value = search rules; law = loaded c.args.bytes.now _ (search rules) }
 
-pub returns-in-err-decodable : goal.returns-in-err-decodable
+pub returns-in_err-decodable : goal.returns-in_err-decodable
 unfolding loading
-returns-in-err-decodable c = record { value = search rules; law = loaded c.args.bytes.now _ (search rules) }
+returns-in_err-decodable c = record { value = search rules; law = loaded c.args.bytes.now _ (search rules) }
 
 pub returns : goal.returns
 unfolding loading

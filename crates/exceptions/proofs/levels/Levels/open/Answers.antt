@@ -6,17 +6,17 @@ use Rattle.exceptions.proofs.Standing.{length_upto, upto_more, upto_set, held_be
 use Rattle.exceptions.proofs.Tabling.{set_within}
 use Rattle.exceptions.proofs.levels.Levels.open.Goals as goal
 
-pub returns-then-count-eq-MOST-LEVELS : goal.returns-then-count-eq-MOST-LEVELS
+pub returns-then-count-eq-MOST_LEVELS : goal.returns-then-count-eq-MOST_LEVELS
 unfolding open_out open_left
-returns-then-count-eq-MOST-LEVELS c =
+returns-then-count-eq-MOST_LEVELS c =
     let s : LevelList = levels_of c.args.self.now in
     let told : Err TooManyLevels ≡ open_out c.args.e s = grind (arith, nat_tests) in
     let left : s ≡ open_left c.args.e s = grind (arith, nat_tests) in
     record { told = told; left = left; undone = open_undone c.args.e s s _ told left }
 
-pub returns-then-not-can-hold : goal.returns-then-not-can-hold
+pub returns-then-not-can_hold : goal.returns-then-not-can_hold
 unfolding open_out open_left level_count
-returns-then-not-can-hold c =
+returns-then-not-can_hold c =
     let s : LevelList = levels_of c.args.self.now in
     let told : Err ExceptionTooHigh ≡ open_out c.args.e s = grind (arith, nat_tests, length_upto) in
     let left : s ≡ open_left c.args.e s = grind (arith, nat_tests, length_upto) in
@@ -26,9 +26,9 @@ pub bounds-self-level : goal.bounds-self-level
 unfolding level_count
 bounds-self-level c = grind (arith, length_upto)
 
-pub invariant-of-self : goal.invariant-of-self
+pub invariant_of-self : goal.invariant_of-self
 unfolding level_count
-invariant-of-self c =
+invariant_of-self c =
     let few : c.args.self.now.opened + 1 < 16 = grind (arith, length_upto) in (
       few,
       (

@@ -5,8 +5,8 @@ use Rattle.exceptions.proofs.Standing.{upto_set, held_below}
 use Rattle.exceptions.proofs.Tabling.{set_within}
 use Rattle.exceptions.proofs.levels.Levels.set_current.Goals as goal
 
-pub invariant-of-self : goal.invariant-of-self
-invariant-of-self c = (
+pub invariant_of-self : goal.invariant_of-self
+invariant_of-self c = (
   c.args.self.now.few,
   (
     set_within _ _ _ _ (omega arith) (held_below _ _ (sym c.if-can-hold.ensures)) c.args.self.now.below,
@@ -14,10 +14,10 @@ invariant-of-self c = (
   ),
 )
 
-pub returns-then-can-hold : goal.returns-then-can-hold
+pub returns-then-can_hold : goal.returns-then-can_hold
 unfolding current_left
-returns-then-can-hold c = grind (arith, nat_tests, upto_set, get_or-set_same)
+returns-then-can_hold c = grind (arith, nat_tests, upto_set, get_or-set_same)
 
-pub returns-else-can-hold : goal.returns-else-can-hold
+pub returns-else-can_hold : goal.returns-else-can_hold
 unfolding current_left
-returns-else-can-hold c = grind (arith, nat_tests)
+returns-else-can_hold c = grind (arith, nat_tests)

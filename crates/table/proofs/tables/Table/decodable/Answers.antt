@@ -3,8 +3,8 @@ use Rattle.table.specs.Tables.{parts}
 use Rattle.table.proofs.Decodable.{decodable_none, decodable_on}
 use Rattle.table.proofs.tables.Table.decodable.Goals as goal
 
-pub returns-then-is-none : goal.returns-then-is-none
-returns-then-is-none c =
+pub returns-then-is_none : goal.returns-then-is_none
+returns-then-is_none c =
     let u = decodable_on (parts c.args.self.now) c.limits-limits.result c.loop-at.at c.limits-limits.ensures c.loop-at-test.true in
     search rules
 
