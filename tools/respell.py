@@ -15,7 +15,7 @@ import sys
 WORD = re.compile(r"[A-Za-z_0-9'\u2080-\u2089\u2115\u2102\u2113-]*[A-Za-z_0-9'\u2080-\u2089]")
 # a name whose snake case is taken
 RENAMED = {"number-of": "number_told"}
-HEAD = re.compile(r"^((?:abbrev |unfoldable |pub |private |opaque )*)([^\s:(){}\"]+)\s*(?::(?!:)|\(|\{)")
+HEAD = re.compile(r"^(\s+pub |(?:abbrev |unfoldable |pub |private |opaque )*)([^\s:(){}\"]+)\s*(?::(?!:)|\(|\{)")
 GOAL = re.compile(r"\b(?:goal|need|given|g)\.([A-Za-z_0-9'-]+)")
 TEXT = re.compile(r'"(?:[^"\\]|\\.)*"|//[^\n]*')
 
@@ -44,9 +44,9 @@ def main():
         goals |= set(GOAL.findall(t))
         for line in t.splitlines():
             m = HEAD.match(line)
-            if m and m.group(2) not in RENAMED and not line.startswith(("use ", "mod ", "pub mod", "pub record", "record", "pub data", "data", "ruleset", "pub ruleset", "pub use", "pub syntax", "syntax", "--", " ", "ghost")):
+            if m and m.group(2) not in RENAMED and not line.startswith(("use ", "mod ", "pub mod", "pub record", "record", "pub data", "data", "ruleset", "pub ruleset", "pub use", "pub syntax", "syntax", "--", "ghost")):
                 own.setdefault(m.group(2), set()).add(p)
-    turned = dict(RENAMED)
+    turned = {old: new for old, new in RENAMED.items() if new not in own}
     for name in own:
         if name in goals or "\u25cc" in name or not re.fullmatch(r"[a-z][A-Za-z0-9_'-]*", name):
             continue

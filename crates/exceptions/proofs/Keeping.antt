@@ -66,10 +66,10 @@ module _ (f : Links) (e : ℕ) where
       (λ q. subst Goal (sym (ne_eqb d e q)) (further-found c d (walk_from f e n d).followed (walk_from f e n d).cut p other (on d h q)))
       (cases_eq d e)
 
-  pub walk-found : (n c : ℕ) → hops f n (Some c) ≡ None → (c ≡ e → ⊥) → FoundBy c (walk_from f e n c)
+  pub walk_found : (n c : ℕ) → hops f n (Some c) ≡ None → (c ≡ e → ⊥) → FoundBy c (walk_from f e n c)
   unfolding hops walk_from
-  walk-found zero c h other = absurd (some_not_none _ refl h)
-  walk-found (suc n) c h other = hop-found n c (f c) refl h other (walk-found n)
+  walk_found zero c h other = absurd (some_not_none _ refl h)
+  walk_found (suc n) c h other = hop-found n c (f c) refl h other (walk_found n)
 
 -- what the cut links reach, those before reached
 cut_old : (f : Links) (k n y : ℕ) (o : Option ℕ) → hops (linked f k None) n o ≡ Some y → hops f n o ≡ Some y
@@ -115,8 +115,8 @@ module _ (limit : ℕ) (f : Links) (e c : ℕ) (ring : Ringless f) (within : Wit
       some_not_none _ last (ap (hop g) (z ∙ s) ∙ own_link f k None))
       (cases_none (hops g m (Some c)))
 
-  pub relinked-ringless : (n : ℕ) (o : Option ℕ) → Found f e c n o → Ringless (linked (cutting f o) e (Some c))
-  relinked-ringless n o found = link_ringless (cutting f o) e (Some c) (cutting-ringless o) (cutting-apart n o found)
+  pub relinked_ringless : (n : ℕ) (o : Option ℕ) → Found f e c n o → Ringless (linked (cutting f o) e (Some c))
+  relinked_ringless n o found = link_ringless (cutting f o) e (Some c) (cutting-ringless o) (cutting-apart n o found)
 
   relinked-within : (o : Option ℕ) → Within limit (linked (cutting f o) e (Some c))
   relinked-within o = within_linked limit (cutting f o) e (Some c) (cutting-within o) low
@@ -178,11 +178,11 @@ module _ (limit : ℕ) (f : Links) (e : ℕ) (some : 1 ≤ limit) (ring : Ringle
   linked_to d here =
       let low : d < limit = here.handled in
       let w : Walk = walk_from f e limit d in
-      let found : Found f e d w.followed w.cut = walk-found f e limit d (ends limit f d ring within low) here.other in
+      let found : Found f e d w.followed w.cut = walk_found f e limit d (ends limit f d ring within low) here.other in
       let is : (c : ℕ) → Handled limit (Some d) e c → d ≡ c = λ c h. let p = h.topmost in cc in
       let reaches : Reaches f d e w.followed = found-reaches limit f e d ring within low w.followed w.cut found in
       record {
-        ringless = relinked-ringless limit f e d ring within low w.followed w.cut found;
+        ringless = relinked_ringless limit f e d ring within low w.followed w.cut found;
         within = relinked-within limit f e d ring within low w.cut;
         chained = λ c h. own_link (cutting f w.cut) e (Some d) ∙ ap Some (is c h);
         cut = λ c k h p. relinked-cut limit f e d ring within low w.followed w.cut k found (subst (λ x. Precedes f x e k) (sym (is c h)) p);
@@ -219,9 +219,9 @@ module _ (limit : ℕ) (f : Links) (e : ℕ) (top : Option ℕ) where
   abbrev pub Answered : ℕ → Links → Type 0
   Answered n g = (n ≡ followed_by limit f e top) × (g ≡ contextualized limit f e top)
 
-  pub answered-none : top ≡ None → Answered 0 f
+  pub answered_none : top ≡ None → Answered 0 f
   unfolding followed_by contextualized
-  answered-none p = (sym (ap (followed_by limit f e) p), sym (ap (contextualized limit f e) p))
+  answered_none p = (sym (ap (followed_by limit f e) p), sym (ap (contextualized limit f e) p))
 
   answered-some : (c : ℕ) (b : Bool) → top ≡ Some c → linkable limit e c ≡ b → Answered (cond b (walk_from f e limit c).followed 0) (cond b (relinked limit f e c) f)
   unfolding followed_by contextualized
@@ -230,35 +230,35 @@ module _ (limit : ℕ) (f : Links) (e : ℕ) (top : Option ℕ) where
     sym (ap (contextualized limit f e) p ∙ ap (λ t. cond t (relinked limit f e c) f) q),
   )
 
-  pub answered-not : (c : ℕ) → top ≡ Some c → linkable limit e c ≡ false → Answered 0 f
-  answered-not c p q = answered-some c false p q
+  pub answered_not : (c : ℕ) → top ≡ Some c → linkable limit e c ≡ false → Answered 0 f
+  answered_not c p q = answered-some c false p q
 
-  pub answered-linked : (c : ℕ) → top ≡ Some c → linkable limit e c ≡ true → Answered (walk_from f e limit c).followed (linked (cutting f (walk_from f e limit c).cut) e (Some c))
+  pub answered_linked : (c : ℕ) → top ≡ Some c → linkable limit e c ≡ true → Answered (walk_from f e limit c).followed (linked (cutting f (walk_from f e limit c).cut) e (Some c))
   unfolding relinked
-  answered-linked c p q = answered-some c true p q
+  answered_linked c p q = answered-some c true p q
 
 module _ (limit : ℕ) (w : World) (e c : ℕ) (lawful : Lawful limit w) (low : c < limit) (other : c ≡ e → ⊥) (walk : Walk) (is : walk ≡ walk_from w.links e limit c) where
   walk-tells : Found w.links e c walk.followed walk.cut
   walk-tells =
       let f : Links = w.links in
       let end : hops f limit (Some c) ≡ None = ends limit f c lawful.ringless lawful.within low in
-      subst (λ v. Found f e c v.followed v.cut) (sym is) (walk-found f e limit c end other)
+      subst (λ v. Found f e c v.followed v.cut) (sym is) (walk_found f e limit c end other)
 
   -- what linking owes for its two writes
-  pub owed-cut : IfSome walk.cut (λ k. k < limit)
-  owed-cut = cut_below limit w.links e c lawful.ringless lawful.within low walk.followed walk.cut walk-tells
+  pub owed_cut : IfSome walk.cut (λ k. k < limit)
+  owed_cut = cut_below limit w.links e c lawful.ringless lawful.within low walk.followed walk.cut walk-tells
 
-  pub owed-link : (v : World) → v ≡ with_links (cutting w.links walk.cut) w → Ringless (linked v.links e (Some c))
-  owed-link v p =
+  pub owed_link : (v : World) → v ≡ with_links (cutting w.links walk.cut) w → Ringless (linked v.links e (Some c))
+  owed_link v p =
       subst (λ u. Ringless (linked u.links e (Some c))) (sym p)
-      (relinked-ringless limit w.links e c lawful.ringless lawful.within low walk.followed walk.cut walk-tells)
+      (relinked_ringless limit w.links e c lawful.ringless lawful.within low walk.followed walk.cut walk-tells)
 
-  pub links-done : (s : LevelList) (u v : World) → topmost_of s ≡ Some c → e < limit → v ≡ with_links (cutting w.links walk.cut) w → u ≡ relinking e (Some c) v → (walk.followed ≡ link_out limit s e w) × (u ≡ link_left limit s e w)
-  links-done s u v p raised q r =
+  pub links_done : (s : LevelList) (u v : World) → topmost_of s ≡ Some c → e < limit → v ≡ with_links (cutting w.links walk.cut) w → u ≡ relinking e (Some c) v → (walk.followed ≡ link_out limit s e w) × (u ≡ link_left limit s e w)
+  links_done s u v p raised q r =
       let linkable-so : linkable limit e c ≡ true = grind (arith, nat_tests) in
       let a : Answered limit w.links e (topmost_of s) walk.followed (linked (cutting w.links walk.cut) e (Some c)) =
       subst (λ v. Answered limit w.links e (topmost_of s) v.followed (linked (cutting w.links v.cut) e (Some c))) (sym is)
-      (answered-linked limit w.links e (topmost_of s) c p linkable-so) in
+      (answered_linked limit w.links e (topmost_of s) c p linkable-so) in
       (a.0, r ∙ (ap (relinking e (Some c)) q ∙ ap (λ f. with_links f w) a.1))
 
 -- a question and linking leave a lawful host lawful

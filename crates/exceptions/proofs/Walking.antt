@@ -35,8 +35,8 @@ walk_step f e zero a h = absurd (omega arith)
 walk_step f e (suc n) a h = let k : n ≡ suc n - 1 = omega arith in ap (λ i. hopped e a (f a) (walk_from f e i)) k
 
 module _ (limit : ℕ) (f : Links) (e c : ℕ) where
-  pub going-from : Ringless f → Within limit f → c < limit → Going limit f e c 0 c
-  going-from ring within low =
+  pub going_from : Ringless f → Within limit f → c < limit → Going limit f e c 0 c
+  going_from ring within low =
       let k : limit ≡ limit - 0 = omega arith in
       record {
         low = low;
@@ -47,9 +47,9 @@ module _ (limit : ℕ) (f : Links) (e c : ℕ) where
 
   module _ (n a : ℕ) (going : Going limit f e c n a) where
     -- there is a link to spare
-    pub going-few : n < limit
+    pub going_few : n < limit
     unfolding hops
-    going-few =
+    going_few =
         ⊎_elim (λ h. h)
         (λ h.
         let k : limit - n ≡ 0 = omega arith in
@@ -58,13 +58,13 @@ module _ (limit : ℕ) (f : Links) (e c : ℕ) where
 
     going-hop : (o : Option ℕ) → f a ≡ o → walk_from f e limit c ≡ plus n (hopped e a o (walk_from f e (limit - (n + 1))))
     going-hop o p =
-        let few : n < limit = going-few in
+        let few : n < limit = going_few in
         let k : limit - n - 1 ≡ limit - (n + 1) = omega arith in
         going.same ∙ ap (plus n) (walk_step f e (limit - n) a (omega arith) ∙ (ap (λ i. hopped e a (f a) (walk_from f e i)) k ∙ ap (λ q. hopped e a q (walk_from f e (limit - (n + 1)))) p))
 
     pub going_on : (d : ℕ) → Within limit f → f a ≡ Some d → (d ≡ e → ⊥) → Going limit f e c (n + 1) d
     going_on d within p other =
-        let few : n < limit = going-few in
+        let few : n < limit = going_few in
         let k : limit - n - 1 ≡ limit - (n + 1) = omega arith in
         let w : Walk = walk_from f e (limit - (n + 1)) d in
         record {
@@ -74,11 +74,11 @@ module _ (limit : ℕ) (f : Links) (e c : ℕ) where
           same = going-hop (Some d) p ∙ (ap (λ b. plus n (cond b (record { followed = 1; cut = Some a }) (further w))) (ne_eqb d e other) ∙ plus_more n w);
         }
 
-    pub going-found : (d : ℕ) → f a ≡ Some d → d ≡ e → record { followed = n + 1; cut = Some a } ≡ walk_from f e limit c
-    going-found d p q =
+    pub going_found : (d : ℕ) → f a ≡ Some d → d ≡ e → record { followed = n + 1; cut = Some a } ≡ walk_from f e limit c
+    going_found d p q =
         sym (going-hop (Some d) p ∙ ap (λ b. plus n (cond b (record { followed = 1; cut = Some a }) (further (walk_from f e (limit - (n + 1)) d)))) (eq-eqb d e q))
 
-    pub going-ended : f a ≡ None → record { followed = n; cut = None } ≡ walk_from f e limit c
-    going-ended p =
+    pub going_ended : f a ≡ None → record { followed = n; cut = None } ≡ walk_from f e limit c
+    going_ended p =
         let k : n + 0 ≡ n = omega arith in
         sym (going-hop None p ∙ ap (λ i. record { followed = i; cut = None }) k)

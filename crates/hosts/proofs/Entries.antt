@@ -6,15 +6,15 @@ use Rattle.hosts.specs.Tape.{entry_of, entry_left, entry_reply, takes, tape_move
 use Rattle.exceptions.specs.Questions.{Question}
 
 module _ (xs : List ℕ) (at : ℕ) where
-  pub entry-none : length xs - at < 5 → (record { kind = 0; number = 0 } ≡ entry_of (drop at xs)) × (drop at xs ≡ entry_left (drop at xs))
+  pub entry_none : length xs - at < 5 → (record { kind = 0; number = 0 } ≡ entry_of (drop at xs)) × (drop at xs ≡ entry_left (drop at xs))
   unfolding entry_of entry_left
-  entry-none h =
+  entry_none h =
       let short : length (drop at xs) < 5 = simp length-drop (omega arith) in
       (sym (cond-true _ _ _ (lt-ltb _ 5 short)), sym (cond-true _ _ _ (lt-ltb _ 5 short)))
 
-  pub entry-some : (n : ℕ) → 5 ≤ length xs - at → n ≡ get_or xs (at + 1) 0 + get_or xs (at + 2) 0 * 256 + get_or xs (at + 3) 0 * 65536 + get_or xs (at + 4) 0 * 16777216 → (record { kind = get_or xs at 0; number = n } ≡ entry_of (drop at xs)) × (drop (at + 5) xs ≡ entry_left (drop at xs))
+  pub entry_some : (n : ℕ) → 5 ≤ length xs - at → n ≡ get_or xs (at + 1) 0 + get_or xs (at + 2) 0 * 256 + get_or xs (at + 3) 0 * 65536 + get_or xs (at + 4) 0 * 16777216 → (record { kind = get_or xs at 0; number = n } ≡ entry_of (drop at xs)) × (drop (at + 5) xs ≡ entry_left (drop at xs))
   unfolding entry_of entry_left
-  entry-some n h e =
+  entry_some n h e =
       let long : 5 ≤ length (drop at xs) = simp length-drop (omega arith) in
       let first : get_or (drop at xs) 0 0 ≡ get_or xs at 0 = get_or-drop at xs 0 0 ∙ ap (λ i. get_or xs i 0) (add-zero at) in
       let b1 = get_or-drop at xs 1 0 in

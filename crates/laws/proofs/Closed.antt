@@ -160,11 +160,11 @@ module _ (C : BlockType → Type 0) (P : State → Type 0) (k : Closed C P) wher
       (turn_leaves limit maximum b.typ b.level bs reason s h) (turn-past limit maximum b.typ b.level bs reason s h p)
       (over-past limit maximum reason bs)
 
-  pub unwound-past : (limit maximum : ℕ) (reason : UnwindReason) (s : State) → P s → Past P (unwound limit maximum reason s).out (unwound limit maximum reason s).state
+  pub unwound_past : (limit maximum : ℕ) (reason : UnwindReason) (s : State) → P s → Past P (unwound limit maximum reason s).out (unwound limit maximum reason s).state
   unfolding unwound
-  unwound-past limit maximum reason s p = over-past limit maximum reason s.frame.blocks s refl p
+  unwound_past limit maximum reason s p = over-past limit maximum reason s.frame.blocks s refl p
 
-  pub raised-past : (limit maximum e row : ℕ) (s : State) → P s → Past P (raised limit maximum e row s).out (raised limit maximum e row s).state
+  pub raised_past : (limit maximum e row : ℕ) (s : State) → P s → Past P (raised limit maximum e row s).out (raised limit maximum e row s).state
   unfolding raised
-  raised-past limit maximum e row s p =
-      unwound-past limit maximum (Raising e) _ (k.links limit e _ (k.asks (Trace e s.frame.index row) s p))
+  raised_past limit maximum e row s p =
+      unwound_past limit maximum (Raising e) _ (k.links limit e _ (k.asks (Trace e s.frame.index row) s p))

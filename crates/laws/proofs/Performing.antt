@@ -116,7 +116,7 @@ use Rattle.instructions.specs.Instructions.{
 use Rattle.machine.specs.Executing.{constant_of, performed}
 use Rattle.machine.specs.Steps.{attempted, fetched, followed, row_of, stepped}
 use Rattle.laws.proofs.Books.{back_books, callee_books, cut_books, jump_books, pop_books, push_books, replace_books, reverse_books, store_books}
-use Rattle.laws.proofs.Closed.{Closed, Fresh, Past, Plain, Saved, raised-past, unwound-past}
+use Rattle.laws.proofs.Closed.{Closed, Fresh, Past, Plain, Saved, raised_past, unwound_past}
 
 module _ (C : BlockType → Type 0) (P : State → Type 0) (k : Closed C P) where
   met : {A B : Type 0} (o : Result A Fault) (u : State) (next : A → State → After (Result B Interrupt)) →
@@ -202,7 +202,7 @@ module _ (C : BlockType → Type 0) (P : State → Type 0) (k : Closed C P) wher
 
   resuming-past : (limit maximum : ℕ) (o : Option UnwindReason) (s : State) → P s → Past P (resuming limit maximum o s).out (resuming limit maximum o s).state
   resuming-past limit maximum None s p = p
-  resuming-past limit maximum (Some reason) s p = unwound-past C P k limit maximum reason s p
+  resuming-past limit maximum (Some reason) s p = unwound_past C P k limit maximum reason s p
 
   ended-past : (limit maximum : ℕ) (typ : BlockType) (t : State) → ((p : Option ℕ) → Saved typ p → P (setting p t)) →
       Past P (ended limit maximum typ t).out (ended limit maximum typ t).state
@@ -309,7 +309,7 @@ module _ (C : BlockType → Type 0) (P : State → Type 0) (k : Closed C P) wher
 
   return-past : (limit maximum : ℕ) (s : State) → P s → Past P (return_value limit maximum s).out (return_value limit maximum s).state
   unfolding return_value
-  return-past limit maximum s p = pop s _ p (λ v t q. unwound-past C P k limit maximum (Returning v) t q)
+  return-past limit maximum s p = pop s _ p (λ v t q. unwound_past C P k limit maximum (Returning v) t q)
 
   yield-value-past : (s : State) → P s → Past P (yield_value s).out (yield_value s).state
   unfolding yield_value
@@ -336,43 +336,43 @@ module _ (C : BlockType → Type 0) (P : State → Type 0) (k : Closed C P) wher
   abbrev pub Pops : Instruction → State → Type 0
   Pops i s = (b : Block) → i ≡ PopBlock → strike_out s.frame ≡ Ok b → C b.typ
 
-  pub performed-past : (limit none : ℕ) (t : Parts) (i : Instruction) (s : State) → Pops i s → P s →
+  pub performed_past : (limit none : ℕ) (t : Parts) (i : Instruction) (s : State) → Pops i s → P s →
       Past P (performed limit none t i s).out (performed limit none t i s).state
   unfolding performed
-  performed-past limit none t (LoadConst idx) s c p = push t.maximum (constant_of t idx) s going_on p (λ u q. q)
-  performed-past limit none t (LoadFast idx) s c p = then-past (load_fast t.maximum idx s) (load-fast-past t.maximum idx s p)
-  performed-past limit none t (StoreFast idx) s c p = then-past (store_fast idx s) (store-fast-past idx s p)
-  performed-past limit none t Pop s c p = pop s _ p (λ v u q. q)
-  performed-past limit none t (Reverse n) s c p =
+  performed_past limit none t (LoadConst idx) s c p = push t.maximum (constant_of t idx) s going_on p (λ u q. q)
+  performed_past limit none t (LoadFast idx) s c p = then-past (load_fast t.maximum idx s) (load-fast-past t.maximum idx s p)
+  performed_past limit none t (StoreFast idx) s c p = then-past (store_fast idx s) (store-fast-past idx s p)
+  performed_past limit none t Pop s c p = pop s _ p (λ v u q. q)
+  performed_past limit none t (Reverse n) s c p =
       met (reverse_out n s.frame) (in_frame (reverse_left n s.frame) s) _ (λ a e. k.books s (reverse_left n s.frame) (reverse_books n s.frame) p)
-  performed-past limit none t (CallFunctionPositional n) s c p = then-past (call_function_positional t.maximum n s) (call-past t.maximum n s p)
-  performed-past limit none t GetIter s c p = then-past (get_iter t.maximum s) (get-iter-past t.maximum s p)
-  performed-past limit none t (ForIter x) s c p = then-past (for_iter t.maximum x s) (for-iter-past t.maximum x s p)
-  performed-past limit none t (Jump x) s c p = jump x s p
-  performed-past limit none t (JumpIfTrue x) s c p = then-past (jump_if x true s) (jump-if-past x true s p)
-  performed-past limit none t (JumpIfFalse x) s c p = then-past (jump_if x false s) (jump-if-past x false s p)
-  performed-past limit none t SetupLoop s c p = set-up Loop s going_on tt p (λ u q. q)
-  performed-past limit none t (SetupExcept x) s c p = set-up (TryExcept x) s going_on tt p (λ u q. q)
-  performed-past limit none t (SetupFinally x) s c p = set-up (Finally x) s going_on tt p (λ u q. q)
-  performed-past limit none t (EnterFinally x) s c p = set-up (FinallyHandler None s.levels.last) s going_on refl p (λ u q. q)
-  performed-past limit none t EndFinally s c p = end-finally-past limit t.maximum s p
-  performed-past limit none t (SetupWith x) s c p = then-past (setup_with t.maximum x s) (setup-with-past t.maximum x s p)
-  performed-past limit none t WithCleanupStart s c p = then-past (with_cleanup_start none s) (with-start-past none s p)
-  performed-past limit none t WithCleanupFinish s c p = with-finish-past limit t.maximum s p
-  performed-past limit none t PopBlock s c p =
+  performed_past limit none t (CallFunctionPositional n) s c p = then-past (call_function_positional t.maximum n s) (call-past t.maximum n s p)
+  performed_past limit none t GetIter s c p = then-past (get_iter t.maximum s) (get-iter-past t.maximum s p)
+  performed_past limit none t (ForIter x) s c p = then-past (for_iter t.maximum x s) (for-iter-past t.maximum x s p)
+  performed_past limit none t (Jump x) s c p = jump x s p
+  performed_past limit none t (JumpIfTrue x) s c p = then-past (jump_if x true s) (jump-if-past x true s p)
+  performed_past limit none t (JumpIfFalse x) s c p = then-past (jump_if x false s) (jump-if-past x false s p)
+  performed_past limit none t SetupLoop s c p = set-up Loop s going_on tt p (λ u q. q)
+  performed_past limit none t (SetupExcept x) s c p = set-up (TryExcept x) s going_on tt p (λ u q. q)
+  performed_past limit none t (SetupFinally x) s c p = set-up (Finally x) s going_on tt p (λ u q. q)
+  performed_past limit none t (EnterFinally x) s c p = set-up (FinallyHandler None s.levels.last) s going_on refl p (λ u q. q)
+  performed_past limit none t EndFinally s c p = end-finally-past limit t.maximum s p
+  performed_past limit none t (SetupWith x) s c p = then-past (setup_with t.maximum x s) (setup-with-past t.maximum x s p)
+  performed_past limit none t WithCleanupStart s c p = then-past (with_cleanup_start none s) (with-start-past none s p)
+  performed_past limit none t WithCleanupFinish s c p = with-finish-past limit t.maximum s p
+  performed_past limit none t PopBlock s c p =
       met (strike_out s.frame) (in_frame (strike_left s.frame) s) _ (λ b e. k.strikes s b e (c b refl e) p)
-  performed-past limit none t PopException s c p = then-past (pop_exception s) (pop-exception-past s p)
-  performed-past limit none t (RaiseBy x) s c p = then-past (raise x s) (raise-past x s p)
-  performed-past limit none t (BreakTo x) s c p = unwound-past C P k limit t.maximum (Break x) s p
-  performed-past limit none t (ContinueTo x) s c p = unwound-past C P k limit t.maximum (Continue x) s p
-  performed-past limit none t ReturnValue s c p = return-past limit t.maximum s p
-  performed-past limit none t (ReturnConst idx) s c p = unwound-past C P k limit t.maximum (Returning (constant_of t idx)) s p
-  performed-past limit none t YieldValue s c p = yield-value-past s p
-  performed-past limit none t YieldFrom s c p = yield-from-past none s p
+  performed_past limit none t PopException s c p = then-past (pop_exception s) (pop-exception-past s p)
+  performed_past limit none t (RaiseBy x) s c p = then-past (raise x s) (raise-past x s p)
+  performed_past limit none t (BreakTo x) s c p = unwound_past C P k limit t.maximum (Break x) s p
+  performed_past limit none t (ContinueTo x) s c p = unwound_past C P k limit t.maximum (Continue x) s p
+  performed_past limit none t ReturnValue s c p = return-past limit t.maximum s p
+  performed_past limit none t (ReturnConst idx) s c p = unwound_past C P k limit t.maximum (Returning (constant_of t idx)) s p
+  performed_past limit none t YieldValue s c p = yield-value-past s p
+  performed_past limit none t YieldFrom s c p = yield-from-past none s p
 
   followed-past : (limit maximum row : ℕ) (o : Outcome) (s : State) → Past P o s → Past P (followed limit maximum row o s).out (followed limit maximum row o s).state
   followed-past limit maximum row (Ok o) s p = p
-  followed-past limit maximum row (Err (Raise e)) s p = raised-past C P k limit maximum e row s p
+  followed-past limit maximum row (Err (Raise e)) s p = raised_past C P k limit maximum e row s p
   followed-past limit maximum row (Err (Faulty x)) s p = tt
 
   fetched-past : (limit none : ℕ) (t : Parts) (o : Option Instruction) (s : State) →
@@ -382,11 +382,11 @@ module _ (C : BlockType → Type 0) (P : State → Type 0) (k : Closed C P) wher
   fetched-past limit none t (Some i) s c p =
       followed-past limit t.maximum (row_of t s.frame.index) (attempted limit none t i (in_frame (begun s.frame) s)).out (attempted limit none t i (in_frame (begun s.frame) s)).state
       (heed (signal_of s.world) (putting Signal (in_frame (begun s.frame) s)) (λ u v. performed limit none t i v) (k.asks Signal _ p)
-      (λ a. performed-past limit none t i (putting Signal (in_frame (begun s.frame) s)) (c i refl) (k.asks Signal _ p)))
+      (λ a. performed_past limit none t i (putting Signal (in_frame (begun s.frame) s)) (c i refl) (k.asks Signal _ p)))
 
   -- a step, once it has begun
-  pub stepped-past : (limit none : ℕ) (t : Parts) (s : State) →
+  pub stepped_past : (limit none : ℕ) (t : Parts) (s : State) →
       ((i : Instruction) → instruction_at t s.frame.index ≡ Some i → Pops i (putting Signal (in_frame (begun s.frame) s))) →
       P (in_frame (begun s.frame) s) → Past P (stepped limit none t s).out (stepped limit none t s).state
   unfolding stepped
-  stepped-past limit none t s c p = fetched-past limit none t (instruction_at t s.frame.index) s c p
+  stepped_past limit none t s c p = fetched-past limit none t (instruction_at t s.frame.index) s c p

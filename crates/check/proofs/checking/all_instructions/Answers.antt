@@ -5,9 +5,9 @@ use Rattle.table.specs.Tables.{parts}
 use Rattle.check.proofs.Turns.{turn_none, turn_on}
 use Rattle.check.proofs.checking.all_instructions.Goals as goal
 
-pub returns-in-err-instruction-kept : goal.returns-in-err-instruction-kept
+pub returns-in_err-instruction-kept : goal.returns-in_err-instruction-kept
 unfolding all_instructions
-returns-in-err-instruction-kept c =
+returns-in_err-instruction-kept c =
     let u = turn_on (instruction_kept (parts c.args.table.now)) (instruction_count (parts c.args.table.now)) c.loop-at.at c.loop-at.at (omega arith) in
     search rules
 

@@ -5,9 +5,9 @@ use Rattle.table.specs.Tables.{parts}
 use Rattle.check.proofs.Turns.{turn_none, turn_on}
 use Rattle.check.proofs.checking.all_nodes.Goals as goal
 
-pub returns-in-err-node-kept : goal.returns-in-err-node-kept
+pub returns-in_err-node-kept : goal.returns-in_err-node-kept
 unfolding all_nodes
-returns-in-err-node-kept c =
+returns-in_err-node-kept c =
     let u = turn_on (node_kept (parts c.args.table.now)) (node_count (parts c.args.table.now)) c.loop-i.i (c.loop-i.i + 1) (omega arith) in
     search rules
 

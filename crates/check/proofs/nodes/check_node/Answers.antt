@@ -2,17 +2,17 @@ use Rattle.std.proofs.Common.{rules}
 use Rattle.check.specs.Nodes.{checking_node}
 use Rattle.check.proofs.nodes.check_node.Goals as goal
 
-pub returns-in-err-listed : goal.returns-in-err-listed
+pub returns-in_err-listed : goal.returns-in_err-listed
 unfolding checking_node
-returns-in-err-listed c = search rules
+returns-in_err-listed c = search rules
 
-pub returns-in-err-placed : goal.returns-in-err-placed
+pub returns-in_err-placed : goal.returns-in_err-placed
 unfolding checking_node
-returns-in-err-placed c = search rules
+returns-in_err-placed c = search rules
 
-pub returns-in-err-handling : goal.returns-in-err-handling
+pub returns-in_err-handling : goal.returns-in_err-handling
 unfolding checking_node
-returns-in-err-handling c = search rules
+returns-in_err-handling c = search rules
 
 pub returns-in-TryExcept : goal.returns-in-TryExcept
 unfolding checking_node
@@ -22,6 +22,6 @@ pub returns-in-Finally : goal.returns-in-Finally
 unfolding checking_node
 returns-in-Finally c = search rules
 
-pub returns-in-default : goal.returns-in-default
+pub returns-in_default : goal.returns-in_default
 unfolding checking_node
-returns-in-default c = search rules
+returns-in_default c = search rules

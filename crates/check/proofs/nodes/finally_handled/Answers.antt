@@ -2,9 +2,9 @@ use Rattle.std.proofs.Common.{rules}
 use Rattle.check.specs.Nodes.{finally_handled}
 use Rattle.check.proofs.nodes.finally_handled.Goals as goal
 
-pub returns-in-err-handled : goal.returns-in-err-handled
+pub returns-in_err-handled : goal.returns-in_err-handled
 unfolding finally_handled
-returns-in-err-handled c = search rules
+returns-in_err-handled c = search rules
 
 pub returns : goal.returns
 unfolding finally_handled

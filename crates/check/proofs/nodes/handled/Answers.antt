@@ -2,17 +2,17 @@ use Rattle.std.proofs.Common.{rules}
 use Rattle.check.specs.Nodes.{handled}
 use Rattle.check.proofs.nodes.handled.Goals as goal
 
-pub returns-in-err-demand : goal.returns-in-err-demand
+pub returns-in_err-demand : goal.returns-in_err-demand
 unfolding handled
-returns-in-err-demand c = search rules
+returns-in_err-demand c = search rules
 
-pub returns-in-err-demand-2 : goal.returns-in-err-demand-2
+pub returns-in_err-demand-2 : goal.returns-in_err-demand-2
 unfolding handled
-returns-in-err-demand-2 c = search rules
+returns-in_err-demand-2 c = search rules
 
-pub returns-in-err-demand-3 : goal.returns-in-err-demand-3
+pub returns-in_err-demand-3 : goal.returns-in_err-demand-3
 unfolding handled
-returns-in-err-demand-3 c = search rules
+returns-in_err-demand-3 c = search rules
 
 pub returns : goal.returns
 unfolding handled

@@ -2,17 +2,17 @@ use Rattle.std.proofs.Common.{rules}
 use Rattle.check.specs.Nodes.{placed}
 use Rattle.check.proofs.nodes.placed.Goals as goal
 
-pub returns-in-err-demand : goal.returns-in-err-demand
+pub returns-in_err-demand : goal.returns-in_err-demand
 unfolding placed
-returns-in-err-demand c = search rules
+returns-in_err-demand c = search rules
 
-pub returns-in-err-demand-2 : goal.returns-in-err-demand-2
+pub returns-in_err-demand-2 : goal.returns-in_err-demand-2
 unfolding placed
-returns-in-err-demand-2 c = search rules
+returns-in_err-demand-2 c = search rules
 
-pub returns-in-err-demand-3 : goal.returns-in-err-demand-3
+pub returns-in_err-demand-3 : goal.returns-in_err-demand-3
 unfolding placed
-returns-in-err-demand-3 c = search rules
+returns-in_err-demand-3 c = search rules
 
 pub returns : goal.returns
 unfolding placed

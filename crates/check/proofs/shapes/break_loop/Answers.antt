@@ -2,9 +2,9 @@ use Rattle.std.proofs.Common.{rules}
 use Rattle.check.specs.Shapes.{breaks}
 use Rattle.check.proofs.shapes.break_loop.Goals as goal
 
-pub returns-in-err-demand : goal.returns-in-err-demand
+pub returns-in_err-demand : goal.returns-in_err-demand
 unfolding breaks
-returns-in-err-demand c = search rules
+returns-in_err-demand c = search rules
 
 pub returns : goal.returns
 unfolding breaks

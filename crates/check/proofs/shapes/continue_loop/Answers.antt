@@ -2,9 +2,9 @@ use Rattle.std.proofs.Common.{rules}
 use Rattle.check.specs.Shapes.{continues}
 use Rattle.check.proofs.shapes.continue_loop.Goals as goal
 
-pub returns-in-err-demand : goal.returns-in-err-demand
+pub returns-in_err-demand : goal.returns-in_err-demand
 unfolding continues
-returns-in-err-demand c = search rules
+returns-in_err-demand c = search rules
 
 pub returns : goal.returns
 unfolding continues

@@ -2,9 +2,9 @@ use Rattle.std.proofs.Common.{rules}
 use Rattle.check.specs.Shapes.{enters_finally}
 use Rattle.check.proofs.shapes.enter_finally.Goals as goal
 
-pub returns-in-err-opens : goal.returns-in-err-opens
+pub returns-in_err-opens : goal.returns-in_err-opens
 unfolding enters_finally
-returns-in-err-opens c = search rules
+returns-in_err-opens c = search rules
 
 pub returns : goal.returns
 unfolding enters_finally

@@ -2,13 +2,13 @@ use Rattle.std.proofs.Common.{rules}
 use Rattle.check.specs.Shapes.{for_iter}
 use Rattle.check.proofs.shapes.for_iter.Goals as goal
 
-pub returns-in-err-demand : goal.returns-in-err-demand
+pub returns-in_err-demand : goal.returns-in_err-demand
 unfolding for_iter
-returns-in-err-demand c = search rules
+returns-in_err-demand c = search rules
 
-pub returns-in-err-next : goal.returns-in-err-next
+pub returns-in_err-next : goal.returns-in_err-next
 unfolding for_iter
-returns-in-err-next c = search rules
+returns-in_err-next c = search rules
 
 pub returns : goal.returns
 unfolding for_iter

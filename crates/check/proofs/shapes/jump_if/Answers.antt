@@ -2,9 +2,9 @@ use Rattle.std.proofs.Common.{rules}
 use Rattle.check.specs.Shapes.{jump_if}
 use Rattle.check.proofs.shapes.jump_if.Goals as goal
 
-pub returns-in-err-next : goal.returns-in-err-next
+pub returns-in_err-next : goal.returns-in_err-next
 unfolding jump_if
-returns-in-err-next c = search rules
+returns-in_err-next c = search rules
 
 pub returns : goal.returns
 unfolding jump_if

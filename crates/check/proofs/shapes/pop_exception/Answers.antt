@@ -2,9 +2,9 @@ use Rattle.std.proofs.Common.{rules}
 use Rattle.check.specs.Shapes.{pops_exception}
 use Rattle.check.proofs.shapes.pop_exception.Goals as goal
 
-pub returns-in-err-own-kind : goal.returns-in-err-own-kind
+pub returns-in_err-own-kind : goal.returns-in_err-own-kind
 unfolding pops_exception
-returns-in-err-own-kind c = search rules
+returns-in_err-own-kind c = search rules
 
 pub returns : goal.returns
 unfolding pops_exception

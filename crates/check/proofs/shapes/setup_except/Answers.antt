@@ -2,9 +2,9 @@ use Rattle.std.proofs.Common.{rules}
 use Rattle.check.specs.Shapes.{sets_up_except}
 use Rattle.check.proofs.shapes.setup_except.Goals as goal
 
-pub returns-in-err-opens : goal.returns-in-err-opens
+pub returns-in_err-opens : goal.returns-in_err-opens
 unfolding sets_up_except
-returns-in-err-opens c = search rules
+returns-in_err-opens c = search rules
 
 pub returns : goal.returns
 unfolding sets_up_except

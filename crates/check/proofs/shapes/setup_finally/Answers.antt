@@ -2,13 +2,13 @@ use Rattle.std.proofs.Common.{rules}
 use Rattle.check.specs.Shapes.{sets_up_finally}
 use Rattle.check.proofs.shapes.setup_finally.Goals as goal
 
-pub returns-in-err-opens : goal.returns-in-err-opens
+pub returns-in_err-opens : goal.returns-in_err-opens
 unfolding sets_up_finally
-returns-in-err-opens c = search rules
+returns-in_err-opens c = search rules
 
-pub returns-in-err-child-end : goal.returns-in-err-child-end
+pub returns-in_err-child-end : goal.returns-in_err-child-end
 unfolding sets_up_finally
-returns-in-err-child-end c = search rules
+returns-in_err-child-end c = search rules
 
 pub returns : goal.returns
 unfolding sets_up_finally

@@ -2,13 +2,13 @@ use Rattle.std.proofs.Common.{rules}
 use Rattle.check.specs.Shapes.{stands}
 use Rattle.check.proofs.shapes.stands.Goals as goal
 
-pub returns-in-err-demand : goal.returns-in-err-demand
+pub returns-in_err-demand : goal.returns-in_err-demand
 unfolding stands
-returns-in-err-demand c = search rules
+returns-in_err-demand c = search rules
 
-pub returns-in-err-demand-2 : goal.returns-in-err-demand-2
+pub returns-in_err-demand-2 : goal.returns-in_err-demand-2
 unfolding stands
-returns-in-err-demand-2 c = search rules
+returns-in_err-demand-2 c = search rules
 
 pub returns : goal.returns
 unfolding stands

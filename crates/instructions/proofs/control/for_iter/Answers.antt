@@ -2,30 +2,30 @@ use Rattle.std.proofs.Common.{rules}
 use Rattle.instructions.specs.Instructions.{for_iter}
 use Rattle.instructions.proofs.control.for_iter.Goals as goal
 
-pub returns-in-err-iterator : goal.returns-in-err-iterator
+pub returns-in_err-iterator : goal.returns-in_err-iterator
 unfolding for_iter
-returns-in-err-iterator g c = search rules
+returns-in_err-iterator g c = search rules
 
-pub returns-in-err-push-value : goal.returns-in-err-push-value
+pub returns-in_err-push-value : goal.returns-in_err-push-value
 unfolding for_iter
-returns-in-err-push-value g c = search rules
+returns-in_err-push-value g c = search rules
 
-pub returns-in-err-pop-value : goal.returns-in-err-pop-value
+pub returns-in_err-pop-value : goal.returns-in_err-pop-value
 unfolding for_iter
-returns-in-err-pop-value g c = search rules
+returns-in_err-pop-value g c = search rules
 
-pub returns-in-err-pop-value-2 : goal.returns-in-err-pop-value-2
+pub returns-in_err-pop-value-2 : goal.returns-in_err-pop-value-2
 unfolding for_iter
-returns-in-err-pop-value-2 g c = search rules
+returns-in_err-pop-value-2 g c = search rules
 
 pub returns-in-Err : goal.returns-in-Err
 unfolding for_iter
 returns-in-Err g c = search rules
 
-pub returns-in-ok-push-value : goal.returns-in-ok-push-value
+pub returns-in_ok-push-value : goal.returns-in_ok-push-value
 unfolding for_iter
-returns-in-ok-push-value g c = search rules
+returns-in_ok-push-value g c = search rules
 
-pub returns-in-ok-pop-value : goal.returns-in-ok-pop-value
+pub returns-in_ok-pop-value : goal.returns-in_ok-pop-value
 unfolding for_iter
-returns-in-ok-pop-value g c = search rules
+returns-in_ok-pop-value g c = search rules

@@ -2,17 +2,17 @@ use Rattle.std.proofs.Common.{rules}
 use Rattle.instructions.specs.Instructions.{raise}
 use Rattle.instructions.proofs.control.raise.Goals as goal
 
-pub returns-in-err-value : goal.returns-in-err-value
+pub returns-in_err-value : goal.returns-in_err-value
 unfolding raise
-returns-in-err-value g c = search rules
+returns-in_err-value g c = search rules
 
-pub returns-in-err-exception : goal.returns-in-err-exception
+pub returns-in_err-exception : goal.returns-in_err-exception
 unfolding raise
-returns-in-err-exception g c = search rules
+returns-in_err-exception g c = search rules
 
-pub returns-in-ok-exception : goal.returns-in-ok-exception
+pub returns-in_ok-exception : goal.returns-in_ok-exception
 unfolding raise
-returns-in-ok-exception g c = search rules
+returns-in_ok-exception g c = search rules
 
 pub returns-in-Some : goal.returns-in-Some
 unfolding raise

@@ -2,13 +2,13 @@ use Rattle.std.proofs.Common.{rules}
 use Rattle.instructions.specs.Instructions.{end_finally}
 use Rattle.instructions.proofs.handlers.end_finally.Goals as goal
 
-pub returns-in-err-block : goal.returns-in-err-block
+pub returns-in_err-block : goal.returns-in_err-block
 unfolding end_finally
-returns-in-err-block g c = search rules
+returns-in_err-block g c = search rules
 
-pub returns-in-default : goal.returns-in-default
+pub returns-in_default : goal.returns-in_default
 unfolding end_finally
-returns-in-default g c = search rules
+returns-in_default g c = search rules
 
 pub returns-in-Some : goal.returns-in-Some
 unfolding end_finally

@@ -4,41 +4,41 @@ use Rattle.frame.specs.Operations.{pop_left, push_left}
 use Rattle.instructions.specs.Instructions.{setup_with}
 use Rattle.instructions.proofs.managers.setup_with.Goals as goal
 
-pub returns-in-err-manager : goal.returns-in-err-manager
+pub returns-in_err-manager : goal.returns-in_err-manager
 unfolding setup_with
-returns-in-err-manager g c = search rules
+returns-in_err-manager g c = search rules
 
-pub returns-in-err-enter : goal.returns-in-err-enter
+pub returns-in_err-enter : goal.returns-in_err-enter
 unfolding setup_with
-returns-in-err-enter g c = search rules
+returns-in_err-enter g c = search rules
 
-pub returns-in-default : goal.returns-in-default
+pub returns-in_default : goal.returns-in_default
 unfolding setup_with
-returns-in-default g c = search rules
+returns-in_default g c = search rules
 
-pub returns-in-err-entered : goal.returns-in-err-entered
+pub returns-in_err-entered : goal.returns-in_err-entered
 unfolding setup_with
-returns-in-err-entered g c = search rules
+returns-in_err-entered g c = search rules
 
-pub returns-in-default-exit-of : goal.returns-in-default-exit-of
+pub returns-in_default-exit-of : goal.returns-in_default-exit-of
 unfolding setup_with
-returns-in-default-exit-of g c = search rules
+returns-in_default-exit-of g c = search rules
 
-pub returns-in-err-push-value : goal.returns-in-err-push-value
+pub returns-in_err-push-value : goal.returns-in_err-push-value
 unfolding setup_with
-returns-in-err-push-value g c = search rules
+returns-in_err-push-value g c = search rules
 
 pub push-block-requires : goal.push-block-requires
 unfolding pop_left push_left
 push-block-requires g c = grind (arith, nat_tests)
 
-pub returns-in-err-push-block : goal.returns-in-err-push-block
+pub returns-in_err-push-block : goal.returns-in_err-push-block
 unfolding setup_with
-returns-in-err-push-block g c = search rules
+returns-in_err-push-block g c = search rules
 
-pub returns-in-err-push-value-2 : goal.returns-in-err-push-value-2
+pub returns-in_err-push-value-2 : goal.returns-in_err-push-value-2
 unfolding setup_with
-returns-in-err-push-value-2 g c = search rules
+returns-in_err-push-value-2 g c = search rules
 
 pub returns : goal.returns
 unfolding setup_with

@@ -2,21 +2,21 @@ use Rattle.std.proofs.Common.{rules}
 use Rattle.instructions.specs.Instructions.{with_cleanup_finish}
 use Rattle.instructions.proofs.managers.with_cleanup_finish.Goals as goal
 
-pub returns-in-err-block : goal.returns-in-err-block
+pub returns-in_err-block : goal.returns-in_err-block
 unfolding with_cleanup_finish
-returns-in-err-block g c = search rules
+returns-in_err-block g c = search rules
 
-pub returns-in-default : goal.returns-in-default
+pub returns-in_default : goal.returns-in_default
 unfolding with_cleanup_finish
-returns-in-default g c = search rules
+returns-in_default g c = search rules
 
-pub returns-in-err-answer : goal.returns-in-err-answer
+pub returns-in_err-answer : goal.returns-in_err-answer
 unfolding with_cleanup_finish
-returns-in-err-answer g c = search rules
+returns-in_err-answer g c = search rules
 
-pub returns-in-err-truth : goal.returns-in-err-truth
+pub returns-in_err-truth : goal.returns-in_err-truth
 unfolding with_cleanup_finish
-returns-in-err-truth g c = search rules
+returns-in_err-truth g c = search rules
 
 pub returns-then-branch : goal.returns-then-branch
 unfolding with_cleanup_finish

@@ -2,17 +2,17 @@ use Rattle.std.proofs.Common.{rules}
 use Rattle.instructions.specs.Instructions.{call_function_positional}
 use Rattle.instructions.proofs.values.call_function_positional.Goals as goal
 
-pub returns-in-err-function : goal.returns-in-err-function
+pub returns-in_err-function : goal.returns-in_err-function
 unfolding call_function_positional
-returns-in-err-function g c = search rules
+returns-in_err-function g c = search rules
 
-pub returns-in-err-answer : goal.returns-in-err-answer
+pub returns-in_err-answer : goal.returns-in_err-answer
 unfolding call_function_positional
-returns-in-err-answer g c = search rules
+returns-in_err-answer g c = search rules
 
-pub returns-in-err-push-value : goal.returns-in-err-push-value
+pub returns-in_err-push-value : goal.returns-in_err-push-value
 unfolding call_function_positional
-returns-in-err-push-value g c = search rules
+returns-in_err-push-value g c = search rules
 
 pub returns : goal.returns
 unfolding call_function_positional

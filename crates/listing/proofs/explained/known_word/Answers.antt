@@ -5,4 +5,4 @@ use Rattle.listing.proofs.explained.known_word.Goals as goal
 
 pub returns : goal.returns
 unfolding known_text
-returns c = let e = c.in-ok-expected.ensures in made_same string_bytes _ _ _ c.format.ensures.ok (cc)
+returns c = let e = c.in_ok-expected.ensures in made_same string_bytes _ _ _ c.format.ensures.ok (cc)

@@ -2,89 +2,89 @@ use Rattle.std.proofs.Common.{rules}
 use Rattle.machine.specs.Executing.{performed}
 use Rattle.machine.proofs.execute.execute_instruction.Goals as goal
 
-pub returns-in-err-push-value : goal.returns-in-err-push-value
+pub returns-in_err-push-value : goal.returns-in_err-push-value
 unfolding performed
-returns-in-err-push-value g c = search rules
+returns-in_err-push-value g c = search rules
 
-pub returns-in-err-load-fast : goal.returns-in-err-load-fast
+pub returns-in_err-load-fast : goal.returns-in_err-load-fast
 unfolding performed
-returns-in-err-load-fast g c = search rules
+returns-in_err-load-fast g c = search rules
 
-pub returns-in-err-store-fast : goal.returns-in-err-store-fast
+pub returns-in_err-store-fast : goal.returns-in_err-store-fast
 unfolding performed
-returns-in-err-store-fast g c = search rules
+returns-in_err-store-fast g c = search rules
 
-pub returns-in-err-pop-value : goal.returns-in-err-pop-value
+pub returns-in_err-pop-value : goal.returns-in_err-pop-value
 unfolding performed
-returns-in-err-pop-value g c = search rules
+returns-in_err-pop-value g c = search rules
 
-pub returns-in-err-reverse : goal.returns-in-err-reverse
+pub returns-in_err-reverse : goal.returns-in_err-reverse
 unfolding performed
-returns-in-err-reverse g c = search rules
+returns-in_err-reverse g c = search rules
 
-pub returns-in-err-call-function-positional : goal.returns-in-err-call-function-positional
+pub returns-in_err-call-function-positional : goal.returns-in_err-call-function-positional
 unfolding performed
-returns-in-err-call-function-positional g c = search rules
+returns-in_err-call-function-positional g c = search rules
 
-pub returns-in-err-get-iter : goal.returns-in-err-get-iter
+pub returns-in_err-get-iter : goal.returns-in_err-get-iter
 unfolding performed
-returns-in-err-get-iter g c = search rules
+returns-in_err-get-iter g c = search rules
 
-pub returns-in-err-for-iter : goal.returns-in-err-for-iter
+pub returns-in_err-for-iter : goal.returns-in_err-for-iter
 unfolding performed
-returns-in-err-for-iter g c = search rules
+returns-in_err-for-iter g c = search rules
 
-pub returns-in-err-jump-if : goal.returns-in-err-jump-if
+pub returns-in_err-jump-if : goal.returns-in_err-jump-if
 unfolding performed
-returns-in-err-jump-if g c = search rules
+returns-in_err-jump-if g c = search rules
 
-pub returns-in-err-jump-if-2 : goal.returns-in-err-jump-if-2
+pub returns-in_err-jump-if-2 : goal.returns-in_err-jump-if-2
 unfolding performed
-returns-in-err-jump-if-2 g c = search rules
+returns-in_err-jump-if-2 g c = search rules
 
-pub returns-in-err-push-block : goal.returns-in-err-push-block
+pub returns-in_err-push-block : goal.returns-in_err-push-block
 unfolding performed
-returns-in-err-push-block g c = search rules
+returns-in_err-push-block g c = search rules
 
-pub returns-in-err-push-block-2 : goal.returns-in-err-push-block-2
+pub returns-in_err-push-block-2 : goal.returns-in_err-push-block-2
 unfolding performed
-returns-in-err-push-block-2 g c = search rules
+returns-in_err-push-block-2 g c = search rules
 
-pub returns-in-err-push-block-3 : goal.returns-in-err-push-block-3
+pub returns-in_err-push-block-3 : goal.returns-in_err-push-block-3
 unfolding performed
-returns-in-err-push-block-3 g c = search rules
+returns-in_err-push-block-3 g c = search rules
 
-pub returns-in-err-push-block-4 : goal.returns-in-err-push-block-4
+pub returns-in_err-push-block-4 : goal.returns-in_err-push-block-4
 unfolding performed
-returns-in-err-push-block-4 g c = search rules
+returns-in_err-push-block-4 g c = search rules
 
 pub returns-in-EndFinally : goal.returns-in-EndFinally
 unfolding performed
 returns-in-EndFinally g c = search rules
 
-pub returns-in-err-setup-with : goal.returns-in-err-setup-with
+pub returns-in_err-setup-with : goal.returns-in_err-setup-with
 unfolding performed
-returns-in-err-setup-with g c = search rules
+returns-in_err-setup-with g c = search rules
 
-pub returns-in-err-with-cleanup-start : goal.returns-in-err-with-cleanup-start
+pub returns-in_err-with-cleanup-start : goal.returns-in_err-with-cleanup-start
 unfolding performed
-returns-in-err-with-cleanup-start g c = search rules
+returns-in_err-with-cleanup-start g c = search rules
 
 pub returns-in-WithCleanupFinish : goal.returns-in-WithCleanupFinish
 unfolding performed
 returns-in-WithCleanupFinish g c = search rules
 
-pub returns-in-err-strike-block : goal.returns-in-err-strike-block
+pub returns-in_err-strike-block : goal.returns-in_err-strike-block
 unfolding performed
-returns-in-err-strike-block g c = search rules
+returns-in_err-strike-block g c = search rules
 
-pub returns-in-err-pop-exception : goal.returns-in-err-pop-exception
+pub returns-in_err-pop-exception : goal.returns-in_err-pop-exception
 unfolding performed
-returns-in-err-pop-exception g c = search rules
+returns-in_err-pop-exception g c = search rules
 
-pub returns-in-err-raise : goal.returns-in-err-raise
+pub returns-in_err-raise : goal.returns-in_err-raise
 unfolding performed
-returns-in-err-raise g c = search rules
+returns-in_err-raise g c = search rules
 
 pub returns-in-Break : goal.returns-in-Break
 unfolding performed
@@ -110,82 +110,82 @@ pub returns-in-YieldFrom : goal.returns-in-YieldFrom
 unfolding performed
 returns-in-YieldFrom g c = search rules
 
-pub returns-in-ok-push-value : goal.returns-in-ok-push-value
+pub returns-in_ok-push-value : goal.returns-in_ok-push-value
 unfolding performed
-returns-in-ok-push-value g c = search rules
+returns-in_ok-push-value g c = search rules
 
-pub returns-in-ok-load-fast : goal.returns-in-ok-load-fast
+pub returns-in_ok-load-fast : goal.returns-in_ok-load-fast
 unfolding performed
-returns-in-ok-load-fast g c = search rules
+returns-in_ok-load-fast g c = search rules
 
-pub returns-in-ok-store-fast : goal.returns-in-ok-store-fast
+pub returns-in_ok-store-fast : goal.returns-in_ok-store-fast
 unfolding performed
-returns-in-ok-store-fast g c = search rules
+returns-in_ok-store-fast g c = search rules
 
-pub returns-in-ok-pop-value : goal.returns-in-ok-pop-value
+pub returns-in_ok-pop-value : goal.returns-in_ok-pop-value
 unfolding performed
-returns-in-ok-pop-value g c = search rules
+returns-in_ok-pop-value g c = search rules
 
-pub returns-in-ok-reverse : goal.returns-in-ok-reverse
+pub returns-in_ok-reverse : goal.returns-in_ok-reverse
 unfolding performed
-returns-in-ok-reverse g c = search rules
+returns-in_ok-reverse g c = search rules
 
-pub returns-in-ok-call-function-positional : goal.returns-in-ok-call-function-positional
+pub returns-in_ok-call-function-positional : goal.returns-in_ok-call-function-positional
 unfolding performed
-returns-in-ok-call-function-positional g c = search rules
+returns-in_ok-call-function-positional g c = search rules
 
-pub returns-in-ok-get-iter : goal.returns-in-ok-get-iter
+pub returns-in_ok-get-iter : goal.returns-in_ok-get-iter
 unfolding performed
-returns-in-ok-get-iter g c = search rules
+returns-in_ok-get-iter g c = search rules
 
-pub returns-in-ok-for-iter : goal.returns-in-ok-for-iter
+pub returns-in_ok-for-iter : goal.returns-in_ok-for-iter
 unfolding performed
-returns-in-ok-for-iter g c = search rules
+returns-in_ok-for-iter g c = search rules
 
 pub returns-in-Jump : goal.returns-in-Jump
 unfolding performed
 returns-in-Jump g c = search rules
 
-pub returns-in-ok-jump-if : goal.returns-in-ok-jump-if
+pub returns-in_ok-jump-if : goal.returns-in_ok-jump-if
 unfolding performed
-returns-in-ok-jump-if g c = search rules
+returns-in_ok-jump-if g c = search rules
 
-pub returns-in-ok-jump-if-2 : goal.returns-in-ok-jump-if-2
+pub returns-in_ok-jump-if-2 : goal.returns-in_ok-jump-if-2
 unfolding performed
-returns-in-ok-jump-if-2 g c = search rules
+returns-in_ok-jump-if-2 g c = search rules
 
-pub returns-in-ok-push-block : goal.returns-in-ok-push-block
+pub returns-in_ok-push-block : goal.returns-in_ok-push-block
 unfolding performed
-returns-in-ok-push-block g c = search rules
+returns-in_ok-push-block g c = search rules
 
-pub returns-in-ok-push-block-2 : goal.returns-in-ok-push-block-2
+pub returns-in_ok-push-block-2 : goal.returns-in_ok-push-block-2
 unfolding performed
-returns-in-ok-push-block-2 g c = search rules
+returns-in_ok-push-block-2 g c = search rules
 
-pub returns-in-ok-push-block-3 : goal.returns-in-ok-push-block-3
+pub returns-in_ok-push-block-3 : goal.returns-in_ok-push-block-3
 unfolding performed
-returns-in-ok-push-block-3 g c = search rules
+returns-in_ok-push-block-3 g c = search rules
 
-pub returns-in-ok-push-block-4 : goal.returns-in-ok-push-block-4
+pub returns-in_ok-push-block-4 : goal.returns-in_ok-push-block-4
 unfolding performed
-returns-in-ok-push-block-4 g c = search rules
+returns-in_ok-push-block-4 g c = search rules
 
-pub returns-in-ok-setup-with : goal.returns-in-ok-setup-with
+pub returns-in_ok-setup-with : goal.returns-in_ok-setup-with
 unfolding performed
-returns-in-ok-setup-with g c = search rules
+returns-in_ok-setup-with g c = search rules
 
-pub returns-in-ok-with-cleanup-start : goal.returns-in-ok-with-cleanup-start
+pub returns-in_ok-with-cleanup-start : goal.returns-in_ok-with-cleanup-start
 unfolding performed
-returns-in-ok-with-cleanup-start g c = search rules
+returns-in_ok-with-cleanup-start g c = search rules
 
-pub returns-in-ok-strike-block : goal.returns-in-ok-strike-block
+pub returns-in_ok-strike-block : goal.returns-in_ok-strike-block
 unfolding performed
-returns-in-ok-strike-block g c = search rules
+returns-in_ok-strike-block g c = search rules
 
-pub returns-in-ok-pop-exception : goal.returns-in-ok-pop-exception
+pub returns-in_ok-pop-exception : goal.returns-in_ok-pop-exception
 unfolding performed
-returns-in-ok-pop-exception g c = search rules
+returns-in_ok-pop-exception g c = search rules
 
-pub returns-in-ok-raise : goal.returns-in-ok-raise
+pub returns-in_ok-raise : goal.returns-in_ok-raise
 unfolding performed
-returns-in-ok-raise g c = search rules
+returns-in_ok-raise g c = search rules

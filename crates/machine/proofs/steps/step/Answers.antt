@@ -9,9 +9,9 @@ pub returns-then-at-instruction-count : goal.returns-then-at-instruction-count
 unfolding stepped instruction_at
 returns-then-at-instruction-count g c = grind (arith, nat_tests)
 
-pub returns-in-default : goal.returns-in-default
+pub returns-in_default : goal.returns-in_default
 unfolding stepped
-returns-in-default g c = search rules
+returns-in_default g c = search rules
 
 pub attempt-requires : goal.attempt-requires
 unfolding begun
@@ -21,10 +21,10 @@ pub returns-in-Err-Raise : goal.returns-in-Err-Raise
 unfolding stepped
 returns-in-Err-Raise g c = search rules
 
-pub returns-in-default-attempt : goal.returns-in-default-attempt
+pub returns-in_default-attempt : goal.returns-in_default-attempt
 unfolding stepped
-returns-in-default-attempt g c = search rules
+returns-in_default-attempt g c = search rules
 
-pub returns-in-default-attempt·2 : goal.returns-in-default-attempt·2
+pub returns-in_default-attempt·2 : goal.returns-in_default-attempt·2
 unfolding stepped
-returns-in-default-attempt·2 g c = search rules
+returns-in_default-attempt·2 g c = search rules

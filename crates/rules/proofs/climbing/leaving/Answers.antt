@@ -7,6 +7,6 @@ pub returns-in-Finally : goal.returns-in-Finally
 unfolding leaving
 returns-in-Finally c = simp c.in-Finally.is (omega (arith, ints))
 
-pub returns-in-default : goal.returns-in-default
+pub returns-in_default : goal.returns-in_default
 unfolding leaving
-returns-in-default c = grind (arith, ints)
+returns-in_default c = grind (arith, ints)

@@ -5,4 +5,4 @@ use Rattle.rules.proofs.climbing.within.Given as goal
 
 -- what is left to climb ends as the whole does
 abbrev pub invariant-loop-step : goal.invariant-loop-step
-invariant-loop-step l = within (parts l.table) (32 - l.-step) l.at ≡ within (parts l.table) 32 l.number
+invariant-loop-step l = within (parts l.table) (32 - l._step) l.at ≡ within (parts l.table) 32 l.number

@@ -2,9 +2,9 @@ use Rattle.std.proofs.Common.{rules}
 use Rattle.unwinding.specs.Unwinding.{catching}
 use Rattle.unwinding.proofs.unwind.catch.Goals as goal
 
-pub returns-in-err-push-value : goal.returns-in-err-push-value
+pub returns-in_err-push-value : goal.returns-in_err-push-value
 unfolding catching
-returns-in-err-push-value g c = search rules
+returns-in_err-push-value g c = search rules
 
 pub returns : goal.returns
 unfolding catching

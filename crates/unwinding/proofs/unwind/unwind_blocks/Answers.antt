@@ -3,8 +3,8 @@ use Rattle.unwinding.specs.State.{seen}
 use Rattle.unwinding.proofs.Turns.{fewer, unwound_none, unwound_top}
 use Rattle.unwinding.proofs.unwind.unwind_blocks.Goals as goal
 
-pub returns-in-err-unwind-block : goal.returns-in-err-unwind-block
-returns-in-err-unwind-block g c =
+pub returns-in_err-unwind-block : goal.returns-in_err-unwind-block
+returns-in_err-unwind-block g c =
     let u = unwound_top g.H.Exceptions.limit c.args.maximum c.args.reason (seen c.loop-block.frame c.loop-block.levels (g.H.Exceptions.world c.loop-block.host)) c.in-Some.block (sym c.in-Some.ensures) in
     search rules
 
@@ -18,8 +18,8 @@ loop-block-preserved g c =
     let u = unwound_top g.H.Exceptions.limit c.args.maximum c.args.reason (seen c.loop-block.frame c.loop-block.levels (g.H.Exceptions.world c.loop-block.host)) c.in-Some.block (sym c.in-Some.ensures) in
     search rules
 
-pub returns-in-default : goal.returns-in-default
-returns-in-default g c =
+pub returns-in_default : goal.returns-in_default
+returns-in_default g c =
     let u = unwound_none g.H.Exceptions.limit c.args.maximum c.args.reason (seen c.loop-block.frame c.loop-block.levels (g.H.Exceptions.world c.loop-block.host)) in
     search rules
 

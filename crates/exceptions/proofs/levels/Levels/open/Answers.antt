@@ -29,13 +29,8 @@ bounds-self-level c = grind (arith, length_upto)
 pub invariant_of-self : goal.invariant_of-self
 unfolding level_count
 invariant_of-self c =
-    let few : c.args.self.now.opened + 1 < 16 = grind (arith, length_upto) in (
-      few,
-      (
-        set_within _ _ _ _ (omega arith) (held_below _ _ (sym c.if-not-can-hold.ensures)) c.args.self.now.below,
-        tt,
-      ),
-    )
+    let few : c.args.self.now.opened + 1 < 16 = grind (arith, length_upto) in
+    record { few = few; below = set_within _ _ _ _ (omega arith) (held_below _ _ (sym c.if-not-can_hold.ensures)) c.args.self.now.below }
 
 pub returns : goal.returns
 unfolding open_out open_left level_count

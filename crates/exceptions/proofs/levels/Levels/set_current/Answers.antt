@@ -6,13 +6,10 @@ use Rattle.exceptions.proofs.Tabling.{set_within}
 use Rattle.exceptions.proofs.levels.Levels.set_current.Goals as goal
 
 pub invariant_of-self : goal.invariant_of-self
-invariant_of-self c = (
-  c.args.self.now.few,
-  (
-    set_within _ _ _ _ (omega arith) (held_below _ _ (sym c.if-can-hold.ensures)) c.args.self.now.below,
-    tt,
-  ),
-)
+invariant_of-self c = record {
+  few = c.args.self.now.few;
+  below = set_within _ _ _ _ (omega arith) (held_below _ _ (sym c.if-can_hold.ensures)) c.args.self.now.below;
+}
 
 pub returns-then-can_hold : goal.returns-then-can_hold
 unfolding current_left

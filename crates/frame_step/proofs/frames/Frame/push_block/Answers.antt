@@ -11,6 +11,6 @@ pub returns-in-Finally : goal.returns-in-Finally
 unfolding put_up_left put_up_out
 returns-in-Finally c = grind (arith, nat_tests)
 
-pub returns-in-default : goal.returns-in-default
+pub returns-in_default : goal.returns-in_default
 unfolding put_up_left put_up_out
-returns-in-default c = grind (arith, nat_tests)
+returns-in_default c = grind (arith, nat_tests)
