@@ -1,15 +1,15 @@
 // A program for tests: each line of standard input names a case and gives the bytes of a table;
 // it prints what the check answers, and for a refusal its number, its place and its words.
-// It rests on the crates table, check and check_words. The lines are written by tools/check_cases.py,
+// It rests on the crates table, table_check and check_words. The lines are written by tools/check_cases.py,
 // which also writes what is expected. Its page is docs/check.md.
 #![tactic(auto)]
 
-use check::checking::check;
 use check_words::words::explain;
 use std::alloc::{AllocError, Global};
 use std::io;
 use std::io::{BufRead, BufReader};
 use table::loading::load;
+use table_check::checking::check;
 
 // The value of a hexadecimal digit; anything else counts as 0.
 fn digit(b: u8) -> u8 {

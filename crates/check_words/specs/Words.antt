@@ -1,9 +1,9 @@
 -- What the check refuses, in words: number, place, what was found and what was expected.
 use Rattle.std.specs.Prelude.{ℕ, List, [], ◌++◌, ℤ, Some, None, codes, decimal, Option}
 use Rattle.std.specs.Fmt.{signed_decimal}
-use Rattle.check.specs.declared.broken.Broken.{Broken}
-use Rattle.check.specs.declared.broken.Broken.TheVariants.{Instruction}
-use Rattle.check.specs.declared.broken.Broken.TheVariants as broken
+use Rattle.table_check.specs.declared.broken.Broken.{Broken}
+use Rattle.table_check.specs.declared.broken.Broken.TheVariants.{Instruction}
+use Rattle.table_check.specs.declared.broken.Broken.TheVariants as broken
 use Rattle.listing.specs.Names.{name_of}
 use Rattle.rules.specs.declared.rule.Rule.{Rule}
 use Rattle.rules.specs.declared.rule.Rule.TheVariants.{KnownKind, EndListed, ParentBelow, LevelFromParent, LevelWithinMaximum, NodesToBottom, HandlerExists, NoHandler, HandlerDepth, HandlerWithinMaximum, Kind, End, Parent, Level, Decodes, NodeExists, DepthFromLevel, DepthWithinMaximum, TakesAboveLevel, ValuesNeeded, Exists, Depth, Node, Removable, AboveParent, LoopStands}

@@ -2,13 +2,13 @@ ghost use Rattle.std.specs.Prelude.{◌≡◌, IfOk, string_bytes};
 ghost use Rattle.table.specs.Tables.{parts};
 ghost use Rattle.check_words.specs.Words.{counted, depth_text, explanation, instruction_text, kind_byte, kind_name, missing_text, named, node_text, part_text, refused_node, rule_text, takes_text, way_text, whose_text};
 
-use check::broken::Broken;
 use listing::names::name;
 use rules::rule::{Rule, Way, Whose};
 use std::alloc::{AllocError, Global};
 use table::instructions::Instruction;
 use table::records::NodeKind;
 use table::tables::Table;
+use table_check::broken::Broken;
 
 fn kind_name(kind: NodeKind) -> &'static str
     ensures { result.now ≡ kind_name kind }

@@ -4,7 +4,6 @@ use crate::cases::{Call, Case, HostChoice};
 use crate::recording::Recording;
 use crate::states::{counts_text, outcome_text, state_text};
 use crate::tokens::Tokens;
-use check::checking::check;
 use exceptions::levels::Levels;
 use exceptions::world::Exceptions;
 use frame::frames::Frame;
@@ -15,6 +14,7 @@ use std::alloc::{AllocError, Global};
 use table::loading::load;
 use table::refusals::Refusal;
 use table::tables::Table;
+use table_check::checking::check;
 
 // How much is told: all, or only what a machine without a check and without counts can tell too.
 #[derive(Clone, Copy)]

@@ -1,7 +1,7 @@
 -- What is told of bytes.
 use Rattle.std.specs.Prelude.{ℕ, List, Ok, Err, string_bytes, Result}
-use Rattle.check.specs.Checking.{checking}
-use Rattle.check.specs.declared.broken.Broken.{Broken}
+use Rattle.table_check.specs.Checking.{checking}
+use Rattle.table_check.specs.declared.broken.Broken.{Broken}
 use Rattle.check_words.specs.Words as words
 use Rattle.listing.specs.Explained as explained
 use Rattle.listing.specs.Lines.{listing_text}

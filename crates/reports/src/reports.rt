@@ -2,13 +2,13 @@ ghost use Rattle.std.specs.Prelude.{◌≡◌, IfOk};
 ghost use Rattle.reports.specs.Reports.{judging, reporting, told};
 ghost use Rattle.table.specs.Tables.{parts};
 
-use check::checking::check;
 use check_words::words;
 use listing::explained;
 use listing::lines::list;
 use std::alloc::{AllocError, Global};
 use table::loading::load;
 use table::tables::Table;
+use table_check::checking::check;
 
 #[derive(Drop)]
 pub enum Report {
