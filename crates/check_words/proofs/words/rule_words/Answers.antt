@@ -10,7 +10,7 @@ same_named a b x y p q f g h = cc
 pub returns-in-KnownKind : goal.returns-in-KnownKind
 unfolding rule_text
 returns-in-KnownKind c = made_same string_bytes _ _ _ c.counted.ensures
-    (ap (λ n. counted (codes "its kind is") n (codes "1 to ") 5 []) c.kind-byte.ensures ∙ sym (ap rule_text c.in-KnownKind.is))
+    (ap (λ n. counted (codes "its kind is") n (codes "1 to ") 5 []) c.kind_byte.ensures ∙ sym (ap rule_text c.in-KnownKind.is))
 
 pub returns-in-EndListed : goal.returns-in-EndListed
 unfolding rule_text
@@ -51,23 +51,23 @@ returns-in-HandlerWithinMaximum c = made_same string_bytes _ _ _ c.counted-in-Ha
 pub returns-in-Kind : goal.returns-in-Kind
 unfolding rule_text
 returns-in-Kind c = made_same string_bytes _ _ _ c.named-in-Kind.ensures
-    (same_named _ _ _ _ _ _ c.whose-text.ensures c.kind-name.ensures c.kind-name-in-Kind.ensures ∙ sym (ap rule_text c.in-Kind.is))
+    (same_named _ _ _ _ _ _ c.whose_text.ensures c.kind_name.ensures c.kind_name-in-Kind.ensures ∙ sym (ap rule_text c.in-Kind.is))
 
 pub returns-in-End : goal.returns-in-End
 unfolding rule_text
-returns-in-End c = made_same string_bytes _ _ _ c.part-of.ensures (sym (ap rule_text c.in-End.is))
+returns-in-End c = made_same string_bytes _ _ _ c.part_of.ensures (sym (ap rule_text c.in-End.is))
 
 pub returns-in-Parent : goal.returns-in-Parent
 unfolding rule_text
-returns-in-Parent c = made_same string_bytes _ _ _ c.part-of-in-Parent.ensures (sym (ap rule_text c.in-Parent.is))
+returns-in-Parent c = made_same string_bytes _ _ _ c.part_of-in-Parent.ensures (sym (ap rule_text c.in-Parent.is))
 
 pub returns-in-Level : goal.returns-in-Level
 unfolding rule_text
-returns-in-Level c = made_same string_bytes _ _ _ c.part-of-in-Level.ensures (sym (ap rule_text c.in-Level.is))
+returns-in-Level c = made_same string_bytes _ _ _ c.part_of-in-Level.ensures (sym (ap rule_text c.in-Level.is))
 
 pub returns-in-Handler : goal.returns-in-Handler
 unfolding rule_text
-returns-in-Handler c = made_same string_bytes _ _ _ c.part-of-in-Handler.ensures (sym (ap rule_text c.in-Handler.is))
+returns-in-Handler c = made_same string_bytes _ _ _ c.part_of-in-Handler.ensures (sym (ap rule_text c.in-Handler.is))
 
 pub returns-in-Decodes : goal.returns-in-Decodes
 unfolding rule_text
@@ -87,7 +87,7 @@ returns-in-DepthWithinMaximum c = made_same string_bytes _ _ _ c.counted-in-Dept
 
 pub returns-in-TakesAboveLevel : goal.returns-in-TakesAboveLevel
 unfolding rule_text
-returns-in-TakesAboveLevel c = made_same string_bytes _ _ _ c.takes-words.ensures (sym (ap rule_text c.in-TakesAboveLevel.is))
+returns-in-TakesAboveLevel c = made_same string_bytes _ _ _ c.takes_words.ensures (sym (ap rule_text c.in-TakesAboveLevel.is))
 
 pub returns-in-ValuesNeeded : goal.returns-in-ValuesNeeded
 unfolding rule_text
@@ -100,17 +100,17 @@ returns-in-Exists c = made_same string_bytes _ _ _ c.missing.ensures (sym (ap ru
 pub returns-in-Depth : goal.returns-in-Depth
 unfolding rule_text
 returns-in-Depth c = let f : SFits w32 c.in-Depth.expected = search rules in
-    made_same string_bytes _ _ _ c.depth-words.ensures
+    made_same string_bytes _ _ _ c.depth_words.ensures
     (ap (λ z. depth_text c.in-Depth.way z c.in-Depth.found) (to_z-of_z w32 c.in-Depth.expected f) ∙ sym (ap rule_text c.in-Depth.is))
 
 pub returns-in-Node : goal.returns-in-Node
 unfolding rule_text
-returns-in-Node c = made_same string_bytes _ _ _ c.node-words.ensures (sym (ap rule_text c.in-Node.is))
+returns-in-Node c = made_same string_bytes _ _ _ c.node_words.ensures (sym (ap rule_text c.in-Node.is))
 
 pub returns-in-Removable : goal.returns-in-Removable
 unfolding rule_text
 returns-in-Removable c = made_same string_bytes _ _ _ c.named-in-Removable.ensures
-    (ap (λ n. named (codes "its node") n (codes "a Loop, a TryExcept or a Finally")) c.kind-name-in-Removable.ensures ∙ sym (ap rule_text c.in-Removable.is))
+    (ap (λ n. named (codes "its node") n (codes "a Loop, a TryExcept or a Finally")) c.kind_name-in-Removable.ensures ∙ sym (ap rule_text c.in-Removable.is))
 
 pub returns-in-AboveParent : goal.returns-in-AboveParent
 unfolding rule_text
