@@ -9,6 +9,7 @@ mod job;
 use crate::job::JOB;
 use reports::reports::{Report, report_on};
 use std::alloc::AllocError;
+use std::process::ExitCode;
 use std::{env, fs, io};
 
 // How the program ends where it does not end well: what was wrong is told already, or it is an error of the system's.
@@ -65,10 +66,13 @@ fn run(rt: &HostRuntime) -> Result<(), Failure> {
     }
 }
 
-fn main(rt: HostRuntime) -> Result<(), Failure> {
-    let ended = run(&rt);
-    if let Err(Failure::System(error)) = &ended {
-        eprintln!(rt; "{error}")?;
+fn main(rt: HostRuntime) -> io::Result<ExitCode> {
+    match run(&rt) {
+        Ok(()) => Ok(ExitCode::SUCCESS),
+        Err(Failure::Told) => Ok(ExitCode::FAILURE),
+        Err(Failure::System(error)) => {
+            eprintln!(rt; "{error}")?;
+            Ok(ExitCode::FAILURE)
+        }
     }
-    ended
 }
