@@ -137,14 +137,4 @@ impl CloseRefused {
     {
         9
     }
-
-    // The level's number of a token that was refused and is given up.
-    pub fn give_up(self) -> u8
-        ensures { result ≡ self.token.level }
-    {
-        let CloseRefused {
-            token: LevelToken { level: number },
-        } = self;
-        number
-    }
 }
