@@ -2,7 +2,7 @@
 use Rattle.std.proofs.Common.{◌≡◌, ℕ, zero, suc, ◌+◌, ◌-◌, ◌<◌, ◌≤◌, cond, Some, None, Option, sym, refl, ap, ◌∙◌, ⊎_elim, arith}
 use Rattle.std.proofs.lemmas.Bool.{cases_lt, eq-eqb, ne_eqb}
 use Rattle.exceptions.specs.declared.linking.Walk.{Walk}
-use Rattle.exceptions.specs.Links.{Links, hop, hops, Ringless, Within}
+use Rattle.exceptions.specs.Links.{Links, hops, Ringless, Within}
 use Rattle.exceptions.specs.Linking.{further, hopped, walk_from}
 use Rattle.exceptions.proofs.Rings.{ends, hops_rest, some_not_none}
 

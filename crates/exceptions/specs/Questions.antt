@@ -1,5 +1,5 @@
 -- What a host is asked, and what it may answer to each question.
-use Rattle.std.specs.Prelude.{ℕ, ◌<◌, Bool, List, [], ◌∷◌, IfErr, Option, Result}
+use Rattle.std.specs.Prelude.{ℕ, ◌<◌, Bool, List, IfErr, Option, Result}
 use Rattle.std.specs.Result as results
 use Rattle.exceptions.specs.declared.questions.PyIterReturn.{PyIterReturn}
 use Rattle.exceptions.specs.declared.questions.FailKind.{FailKind}

@@ -3,24 +3,7 @@ use Rattle.std.specs.Prelude.{ℕ, ◌≤◌, Bool, List, [], ◌∷◌, Option,
 use Rattle.exceptions.specs.declared.questions.PyIterReturn.{PyIterReturn}
 use Rattle.exceptions.specs.declared.questions.FailKind.{FailKind}
 use Rattle.exceptions.specs.Links.{Links, Ringless, Within, linked}
-use Rattle.exceptions.specs.Questions.{
-  Question,
-  Signal,
-  Truth,
-  Iterate,
-  Next,
-  Call,
-  EnterOf,
-  ExitOf,
-  Instantiate,
-  ValueOf,
-  Split,
-  Send,
-  Fail,
-  Trace,
-  AnswerTo,
-  Below,
-}
+use Rattle.exceptions.specs.Questions.{Question, Signal, Truth, Iterate, Next, Call, EnterOf, ExitOf, Instantiate, ValueOf, Split, Send, Fail, AnswerTo, Below}
 
 -- the answer to the last question of a list: those before it, the oldest first, and itself
 abbrev pub Meaning : Type 0

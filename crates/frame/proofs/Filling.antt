@@ -1,5 +1,5 @@
 -- One argument more in the locals.
-use Rattle.std.proofs.Common.{◌≡◌, ℕ, zero, suc, ◌+◌, ◌-◌, ◌<◌, ◌≤◌, List, [], ◌∷◌, ◌++◌, map, length, get_or, take, set, replicate, Some, None, sym, refl, ap, ◌∙◌, add-one, arith}
+use Rattle.std.proofs.Common.{◌≡◌, ℕ, zero, suc, ◌+◌, ◌-◌, ◌<◌, List, [], ◌∷◌, ◌++◌, map, length, get_or, take, set, replicate, Some, None, refl, ap, add-one, arith}
 
 filling : (xs : List ℕ) (i k : ℕ) → i < length xs →
     set (map Some (take i xs) ++ replicate (suc k) None) i (Some (get_or xs i 0)) ≡ map Some (take (suc i) xs) ++ replicate k None

@@ -1,5 +1,5 @@
 -- A table in fixed memory as a list: what reading, writing, pushing and cutting do.
-use Rattle.std.proofs.Common.{◌≡◌, ℕ, zero, suc, ◌+◌, ◌-◌, ◌<◌, ◌≤◌, List, [], ◌∷◌, length, get_or, drop, set, Some, None, sym, refl, ap, ◌∙◌, ⊎_elim, suc-add, zero-add, add-one, arith, get_or-set_other, get_or-set_same}
+use Rattle.std.proofs.Common.{◌≡◌, ℕ, zero, suc, ◌+◌, ◌-◌, ◌<◌, ◌≤◌, List, [], ◌∷◌, length, get_or, drop, set, Some, sym, refl, ap, ◌∙◌, ⊎_elim, suc-add, zero-add, add-one, arith, get_or-set_other, get_or-set_same}
 use native.Mathlib.Numerals.{unary_clauses}
 use Rattle.std.proofs.lemmas.Bool.{cases_eq}
 use Rattle.frame.specs.Tables.{lowest, rest, top_of, upto, written}

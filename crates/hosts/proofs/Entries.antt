@@ -1,7 +1,6 @@
 -- Entries at a cursor.
 use Rattle.std.proofs.Common.{◌≡◌, ℕ, ◌+◌, ◌-◌, ◌*◌, ◌<◌, ◌≤◌, Bool, true, false, cond, List, [], ◌∷◌, length, get_or, drop, sym, refl, ap, ◌∙◌, ⊎_elim, add-zero, zero-add, arith, length-drop, get_or-drop, drop-drop}
 use Rattle.std.proofs.lemmas.Bool.{cases_lt, cond-true, cond-false, lt-ltb, le-ltb}
-use Rattle.hosts.specs.declared.tape.Entry.{Entry}
 use Rattle.hosts.specs.Tape.{entry_of, entry_left, entry_reply, takes, tape_moves, tape_meaning, taken, InOrder}
 use Rattle.exceptions.specs.Questions.{Question}
 

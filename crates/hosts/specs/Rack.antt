@@ -1,5 +1,5 @@
 -- The rack: eight devices, each with a charge; handle h is device h mod 8.
-use Rattle.std.specs.Prelude.{◌≡◌, ℕ, ◌+◌, ◌%◌, Bool, cond, List, [], ◌∷◌, replicate, Some, None, Ok, Err, Option, Result, ◌==◌, nat_lt, slice_index, slice_set}
+use Rattle.std.specs.Prelude.{◌≡◌, ℕ, ◌+◌, ◌%◌, cond, List, [], ◌∷◌, replicate, Some, None, Ok, Err, Option, Result, ◌==◌, nat_lt, slice_index, slice_set}
 use Rattle.exceptions.specs.declared.questions.PyIterReturn.{PyIterReturn}
 use Rattle.exceptions.specs.declared.questions.PyIterReturn.TheVariants.{Return, StopIteration}
 use Rattle.exceptions.specs.Questions.{

@@ -1,5 +1,5 @@
 -- One step of a climb.
-use Rattle.std.proofs.Common.{◌≡◌, ℕ, zero, suc, ◌+◌, ◌-◌, ◌<◌, true, cond, eqb, ℤ, refl, arith}
+use Rattle.std.proofs.Common.{◌≡◌, ℕ, zero, suc, ◌-◌, ◌<◌, true, cond, eqb, ℤ, refl, arith}
 use native.Mathlib.Numerals.{unary_clauses}
 use Rattle.rules.specs.Climbing.{arriving, leaving, nearest, within}
 use Rattle.rules.specs.Reading.{kind_of, node_for, parent_of, same_kind}

@@ -1,11 +1,11 @@
 -- The tests of load, taken together, say just what a lawful table is.
-use Rattle.std.proofs.Common.{◌≡◌, ℕ, zero, suc, ◌+◌, ◌*◌, ◌/◌, ◌<◌, ◌≤◌, Bool, true, false, cond, List, length, is_some, Some, None, Ok, Err, Option, Result, sym, refl, ap, ◌∙◌, subst, ⊎_elim, mul-le-mul_left, arith}
+use Rattle.std.proofs.Common.{◌≡◌, ℕ, zero, suc, ◌+◌, ◌*◌, ◌/◌, ◌<◌, ◌≤◌, Bool, true, false, cond, List, length, is_some, Some, None, Ok, Err, Option, Result, sym, refl, ap, subst, ⊎_elim, mul-le-mul_left, arith}
 use native.Mathlib.Nat.{div-add-mod, le_of_mul-le-mul_left, mul-mod_right}
 use Rattle.std.proofs.lemmas.Bool.{cases_eq}
 use Rattle.std.proofs.lemmas.Bool.Decides.{nat_tests}
-use Rattle.table.specs.Header.{◌then◌, counted, matched, measured, numbered, placed, placing, sized}
+use Rattle.table.specs.Header.{◌then◌, counted, matched, measured, numbered, placing, sized}
 use Rattle.table.specs.Instructions.{Decoded, decoding}
-use Rattle.table.specs.Lawful.{Blamed, Encoded, First, Headed, InOrder, Lawful, Loaded, Ordered, Placed, Sized, Whole, spans}
+use Rattle.table.specs.Lawful.{Blamed, Encoded, Headed, InOrder, Lawful, Loaded, Ordered, Placed, Sized, Whole, spans}
 use Rattle.table.specs.Layout.{layout_of}
 use Rattle.table.specs.Loading.{decodable, loading}
 use Rattle.table.specs.Parts.{Parts, parts_of}

@@ -1,5 +1,5 @@
 -- What a passed test of the parts' places says.
-use Rattle.std.proofs.Common.{◌≡◌, ℕ, ◌≤◌, Ok, Err, Result, arith}
+use Rattle.std.proofs.Common.{◌≡◌, ℕ, ◌≤◌, Ok, Result, arith}
 use Rattle.std.proofs.lemmas.Bool.Decides.{nat_tests}
 use Rattle.table.specs.Header.{◌then◌, ending, placed, placing}
 use Rattle.table.specs.declared.layout.Layout.{Layout}

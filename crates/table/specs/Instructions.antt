@@ -1,4 +1,4 @@
-use Rattle.std.specs.Prelude.{◌≡◌, ℕ, ◌<◌, ◌≤◌, Bool, true, false, cond, ◌&&◌, ◌||◌, Some, None, Option, ◌==◌, nat_le, nat_lt}
+use Rattle.std.specs.Prelude.{◌≡◌, ℕ, ◌<◌, ◌≤◌, Bool, cond, ◌&&◌, Some, None, Option, ◌==◌, nat_le, nat_lt}
 use Rattle.table.specs.declared.instructions.Word.{Word}
 use Rattle.table.specs.declared.instructions.Limits.{Limits}
 use Rattle.table.specs.declared.instructions.RaiseKind.{RaiseKind}

@@ -1,5 +1,5 @@
 -- What load answers, as a value over the bytes.
-use Rattle.std.specs.Prelude.{ℕ, zero, suc, ◌+◌, ◌*◌, cond, List, length, is_some, Ok, Err, Result}
+use Rattle.std.specs.Prelude.{ℕ, zero, suc, ◌+◌, cond, List, length, is_some, Ok, Err, Result}
 use Rattle.table.specs.Header.{◌then◌, measured, numbered, placing, sized}
 use Rattle.table.specs.Instructions.{decoding}
 use Rattle.table.specs.Layout.{layout_of}

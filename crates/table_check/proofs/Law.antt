@@ -4,7 +4,7 @@ use Rattle.std.proofs.lemmas.Bool.{cases_eq}
 use Rattle.table_check.specs.Checking.{all_instructions, all_nodes, checking, in_turn, instruction_kept, node_kept, placing}
 use Rattle.rules.specs.NodeRules.{NodeRules}
 use Rattle.table_check.specs.Nodes.{checking_node}
-use Rattle.table_check.specs.Passed.{Checked, FirstNode, FirstShape, Passed, Refused}
+use Rattle.table_check.specs.Passed.{Checked}
 use Rattle.rules.specs.Rule.{◌then◌}
 use Rattle.rules.specs.ShapeRules.{ShapeRules}
 use Rattle.table_check.specs.Shapes.{checking_instruction}

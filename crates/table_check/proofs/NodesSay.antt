@@ -1,10 +1,9 @@
 -- The tests of a node say its rules.
-use Rattle.std.proofs.Common.{◌≡◌, ℕ, ◌+◌, ◌<◌, ◌≤◌, Ok, Err, Result, refl, arith}
+use Rattle.std.proofs.Common.{◌≡◌, ℕ, ◌+◌, ◌<◌, ◌≤◌, refl, arith}
 use Rattle.std.proofs.lemmas.Bool.Decides.{nat_tests}
 use Rattle.rules.specs.NodeRules.{EndOf, ExceptHandled, FinallyHandled, Handled, HandlerOf, Known, NodeRules, Within}
 use Rattle.table_check.specs.Nodes.{checking_node, except_handled, finally_handled, handled, handled_as, handling, listed, placed}
 use Rattle.rules.specs.Reading.{kind_of, level_of, node_for}
-use Rattle.rules.specs.Rule.{◌then◌}
 use Rattle.table_check.proofs.Says.{Says, says_like, says_then}
 use Rattle.table_check.proofs.Tellings.{kind_tells, within_tells}
 use Rattle.table.specs.Parts.{Parts}

@@ -1,5 +1,5 @@
 -- A test of several parts is passed exactly if its rule is kept.
-use Rattle.std.proofs.Common.{◌≡◌, Ok, Err, Result, arith}
+use Rattle.std.proofs.Common.{◌≡◌, Ok, Result, arith}
 use Rattle.rules.specs.Rule.{◌then◌}
 
 abbrev pub Says : {E : Type 0} → Result Unit E → Type 0 → Type 0

@@ -1,19 +1,18 @@
 -- The tests of an instruction say its rules.
-use Rattle.std.proofs.Common.{◌≡◌, ℕ, ◌+◌, ◌<◌, ◌≤◌, ℤ, pos, ◌-ℤ◌, Some, None, Ok, Err, Option, Result, refl, arith}
+use Rattle.std.proofs.Common.{◌≡◌, ℕ, ◌+◌, ◌≤◌, ℤ, pos, ◌-ℤ◌, Some, None, Option, refl, arith}
 use Rattle.std.proofs.lemmas.Bool.Decides.{nat_tests}
 use Rattle.rules.specs.Arrivals.{arrives, child_end, child_handler, comes, opens, own_end, own_kind}
 use Rattle.rules.specs.Climbing.{arriving, nearest}
 use Rattle.rules.specs.Effects.{depth_after, needs, takes}
-use Rattle.rules.specs.Reading.{depth_of, kind_of, level_of, node_for, node_of, parent_of, shape_for}
-use Rattle.rules.specs.Rule.{◌then◌}
-use Rattle.rules.specs.ShapeRules.{Arrives, Breaks, ChildEnd, ChildHandler, Continues, Iterates, Kept, KeptBy, Leads, Leaves, LeavesWith, Next, Opens, OwnEnd, OwnKind, Removable, ShapeRules, Starts, Target}
+use Rattle.rules.specs.Reading.{level_of, node_for, parent_of, shape_for}
+use Rattle.rules.specs.ShapeRules.{Arrives, Breaks, ChildEnd, ChildHandler, Continues, Iterates, KeptBy, Leads, Leaves, LeavesWith, Next, Opens, OwnEnd, OwnKind, Removable, ShapeRules, Starts, Target}
 use Rattle.table_check.specs.Shapes.{affords, breaks, checking_instruction, continues, ends_finally, enters_finally, finishes_cleanup, for_iter, judging, jump_if, jumps, leads, leaves, next, pops_block, pops_exception, sets_up_except, sets_up_finally, sets_up_loop, stands, starts, starts_cleanup}
 use Rattle.rules.specs.declared.rule.Way.{Way}
 use Rattle.rules.specs.declared.rule.Way.TheVariants as way
 use Rattle.table_check.proofs.Says.{Says, says_like, says_then}
 use Rattle.table_check.proofs.Tellings.{depth_tells, kind_tells}
 use Rattle.table.specs.Parts.{Parts}
-use Rattle.table.specs.Reading.{instruction_at, instruction_count, node_count}
+use Rattle.table.specs.Reading.{instruction_at, node_count}
 use Rattle.table.specs.declared.instructions.Instruction.{Instruction}
 use Rattle.table.specs.declared.instructions.Instruction.TheVariants.{LoadConst, LoadFast, StoreFast, Pop, Reverse, CallFunctionPositional, GetIter, ForIter, Jump, JumpIfTrue, JumpIfFalse, SetupLoop, SetupExcept, SetupFinally, EnterFinally, EndFinally, SetupWith, WithCleanupStart, WithCleanupFinish, PopBlock, PopException, Raise, Break, Continue, ReturnValue, ReturnConst, YieldValue, YieldFrom}
 use Rattle.table.specs.declared.records.NodeKind.{NodeKind}

@@ -1,5 +1,5 @@
 -- What the tests tell: each came out true and its fact holds, or false and it does not.
-use Rattle.std.proofs.Common.{◌≡◌, ℕ, zero, suc, ◌<◌, Bool, true, false, cond, eqb, ◌⊎◌, ℤ, pos, negsuc, refl, inl, inr, arith}
+use Rattle.std.proofs.Common.{◌≡◌, ℕ, zero, suc, ◌<◌, Bool, true, false, cond, eqb, ◌⊎◌, ℤ, pos, negsuc, refl, inr, arith}
 use Rattle.std.proofs.lemmas.Bool.Decides.{nat_tests}
 use Rattle.rules.specs.Arrivals.{is_depth}
 use Rattle.rules.specs.Climbing.{within}
@@ -7,7 +7,6 @@ use Rattle.rules.specs.NodeRules.{Within}
 use Rattle.rules.specs.Reading.{parent_of, same_kind}
 use Rattle.table.specs.Parts.{Parts}
 use Rattle.table.specs.declared.records.NodeKind.{NodeKind}
-use Rattle.table.specs.declared.records.NodeKind.TheVariants.{Loop, TryExcept, Finally, FinallyHandler, ExceptHandler, Unknown}
 
 abbrev pub Tells : Bool → Type 0 → Type 0
 Tells b P = ((b ≡ true) × P) ⊎ ((b ≡ false) × (P → ⊥))

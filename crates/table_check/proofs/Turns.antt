@@ -1,5 +1,5 @@
 -- One turn of a walk over places.
-use Rattle.std.proofs.Common.{◌≡◌, ℕ, zero, suc, ◌+◌, ◌-◌, ◌<◌, Ok, Result, refl, ap, ◌∙◌, arith}
+use Rattle.std.proofs.Common.{◌≡◌, ℕ, zero, suc, ◌+◌, ◌-◌, ◌<◌, Ok, Result, refl, arith}
 use native.Mathlib.Numerals.{unary_clauses}
 use Rattle.table_check.specs.Checking.{in_turn}
 use Rattle.rules.specs.Rule.{◌then◌}

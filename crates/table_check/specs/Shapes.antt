@@ -1,5 +1,5 @@
 -- The check of an instruction: the rules in the order in which they are asked, each with the name that it is refused by.
-use Rattle.std.specs.Prelude.{ℕ, ◌+◌, Bool, true, false, cond, not, ℤ, pos, ◌-ℤ◌, Some, None, Ok, Err, Option, Result, ◌==◌, nat_le, nat_lt}
+use Rattle.std.specs.Prelude.{ℕ, ◌+◌, Bool, true, false, cond, not, pos, ◌-ℤ◌, Some, None, Ok, Err, Option, Result, ◌==◌, nat_le, nat_lt}
 use Rattle.rules.specs.Arrivals.{arrives, child_end, child_handler, opens, own_end, own_kind}
 use Rattle.rules.specs.Climbing.{arriving, nearest}
 use Rattle.rules.specs.Effects.{depth_after, needs, takes}

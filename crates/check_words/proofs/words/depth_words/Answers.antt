@@ -1,4 +1,4 @@
-use Rattle.std.proofs.Common.{◌≡◌, string_bytes, w32, to_z, of_z}
+use Rattle.std.proofs.Common.{string_bytes, w32}
 use Rattle.std.proofs.lemmas.Int.{to_z-of_z}
 use Rattle.check_words.specs.Words.{depth_text}
 use Rattle.check_words.proofs.Made.{made_same}

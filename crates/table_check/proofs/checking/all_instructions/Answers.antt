@@ -1,4 +1,4 @@
-use Rattle.std.proofs.Common.{◌+◌, ◌-◌, arith, rules}
+use Rattle.std.proofs.Common.{◌-◌, arith, rules}
 use Rattle.table_check.specs.Checking.{all_instructions, instruction_kept}
 use Rattle.table.specs.Reading.{instruction_count}
 use Rattle.table.specs.Tables.{parts}

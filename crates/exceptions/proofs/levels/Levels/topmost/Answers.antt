@@ -1,4 +1,4 @@
-use Rattle.std.proofs.Common.{◌-◌, sym, ◌∙◌, arith, rules}
+use Rattle.std.proofs.Common.{◌-◌, sym, ◌∙◌, rules}
 use Rattle.exceptions.proofs.Standing.{topmost_more, topmost_less, topmost_end}
 use Rattle.exceptions.proofs.levels.Levels.topmost.Goals as goal
 

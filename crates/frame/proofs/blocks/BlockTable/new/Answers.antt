@@ -1,6 +1,5 @@
-use Rattle.std.proofs.Common.{arith, rules}
-use Rattle.std.proofs.lemmas.Bool.Decides.{nat_tests}
-use Rattle.frame.proofs.Tables.{length_upto, upto_none, upto_push, upto_rest, upto_top, upto_write}
+use Rattle.std.proofs.Common.{rules}
+use Rattle.frame.proofs.Tables.{upto_none}
 use Rattle.frame.proofs.blocks.BlockTable.new.Goals as goal
 
 pub returns : goal.returns

@@ -1,6 +1,6 @@
-use Rattle.std.proofs.Common.{arith, rules}
+use Rattle.std.proofs.Common.{arith}
 use Rattle.std.proofs.lemmas.Bool.Decides.{nat_tests}
-use Rattle.frame.proofs.Tables.{length_upto, upto_none, upto_push, upto_rest, upto_top, upto_write}
+use Rattle.frame.proofs.Tables.{length_upto, upto_push}
 use Rattle.frame.proofs.blocks.BlockTable.push.Goals as goal
 
 pub returns-then-at-ge32 : goal.returns-then-at-ge32

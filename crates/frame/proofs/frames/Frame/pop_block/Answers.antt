@@ -1,4 +1,4 @@
-use Rattle.std.proofs.Common.{arith, rules}
+use Rattle.std.proofs.Common.{arith}
 use Rattle.std.proofs.lemmas.Bool.Decides.{nat_tests}
 use Rattle.frame.specs.Operations.{remove_left, remove_out}
 use Rattle.frame.proofs.frames.Frame.pop_block.Goals as goal

@@ -1,4 +1,4 @@
-use Rattle.std.proofs.Common.{arith, rules}
+use Rattle.std.proofs.Common.{arith}
 use Rattle.std.proofs.lemmas.Bool.Decides.{nat_tests}
 use Rattle.frame.specs.Operations.{put_up_left, put_up_out}
 use Rattle.frame.proofs.frames.Frame.push_block.Goals as goal

@@ -1,6 +1,5 @@
-use Rattle.std.proofs.Common.{arith, rules}
-use Rattle.std.proofs.lemmas.Bool.Decides.{nat_tests}
-use Rattle.frame.proofs.Tables.{length_upto, upto_cut, upto_none, upto_push, upto_rest, upto_top}
+use Rattle.std.proofs.Common.{rules}
+use Rattle.frame.proofs.Tables.{upto_none, upto_rest, upto_top}
 use Rattle.frame.proofs.stack.Stack.pop.Goals as goal
 
 pub returns-then-self-eq0 : goal.returns-then-self-eq0

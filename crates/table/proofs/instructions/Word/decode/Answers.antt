@@ -1,5 +1,4 @@
-use Rattle.std.proofs.Common.{◌∙◌, subst}
-use Rattle.table.specs.Instructions.{Decoded, decoding}
+use Rattle.table.specs.Instructions.{decoding}
 use Rattle.table.proofs.Decoded.{decoded}
 use Rattle.table.proofs.instructions.Word.decode.Goals as goal
 

@@ -1,4 +1,4 @@
-use Rattle.std.proofs.Common.{arith, rules}
+use Rattle.std.proofs.Common.{rules}
 use Rattle.table.specs.Tables.{parts}
 use Rattle.table.proofs.Decodable.{decodable_none, decodable_on}
 use Rattle.table.proofs.tables.Table.decodable.Goals as goal
