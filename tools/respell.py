@@ -5,7 +5,7 @@ usage: python3 tools/respell.py            at the top, once, right after port.py
 
 A definition in camel case (`levelsOf`) and a lemma in words joined by dashes (`upto-cut`) become `levels_of` and `upto_cut`.
 Facts and types keep their capitals, goals that Rattle names keep theirs, and so does all that stands in strings and comments
-of .rt files. It stops, and writes nothing, where two names would fall together, or where a new one is a name of the code.
+of .rt files. It stops, and writes nothing, where two names would fall together, or where a parameter would hide a new one.
 """
 
 import os
@@ -15,7 +15,7 @@ import sys
 WORD = re.compile(r"[A-Za-z_0-9'\u2080-\u2089\u2115\u2102\u2113-]*[A-Za-z_0-9'\u2080-\u2089]")
 # a name whose snake case is taken
 RENAMED = {"number-of": "number_told"}
-HEAD = re.compile(r"^(\s+pub |(?:abbrev |unfoldable |pub |private |opaque )*)([^\s:(){}\"]+)\s*(?::(?!:)|\(|\{)")
+HEAD = re.compile(r"^(\s+pub |\s+(?=[a-z][\w']*-[\w'-]* : )|(?:abbrev |unfoldable |pub |private |opaque )*)([^\s:(){}\"]+)\s*(?::(?!:)|\(|\{)")
 GOAL = re.compile(r"\b(?:goal|need|given|g)\.([A-Za-z_0-9'-]+)")
 TEXT = re.compile(r'"(?:[^"\\]|\\.)*"|//[^\n]*')
 

@@ -48,28 +48,28 @@ module _ (f : Links) (e : ℕ) where
   apart_some c d p other never (suc m) q = never m (sym (ap (hops f m) p) ∙ q)
 
   -- a link from c to d comes before a walk from d
-  further-found : (c d n : ℕ) (o : Option ℕ) → f c ≡ Some d → (c ≡ e → ⊥) → Found f e d n o → Found f e c (n + 1) o
+  further_found : (c d n : ℕ) (o : Option ℕ) → f c ≡ Some d → (c ≡ e → ⊥) → Found f e d n o → Found f e c (n + 1) o
   unfolding hops
-  further-found c d n None p other (never, (last, q, r)) =
+  further_found c d n None p other (never, (last, q, r)) =
       (apart_some c d p other never, (last, ap (λ i. hops f i (Some c)) (add-one n) ∙ (ap (hops f n) p ∙ q), r))
-  further-found c d n (Some k) p other (m, i, q, r) = (suc m, add-one n ∙ ap suc i, ap (hops f m) p ∙ q, r)
+  further_found c d n (Some k) p other (m, i, q, r) = (suc m, add-one n ∙ ap suc i, ap (hops f m) p ∙ q, r)
 
   abbrev FoundBy : ℕ → Walk → Type 0
   FoundBy c w = Found f e c w.followed w.cut
 
-  hop-found : (n c : ℕ) (o : Option ℕ) → f c ≡ o → hops f n o ≡ None → (c ≡ e → ⊥) → ((d : ℕ) → hops f n (Some d) ≡ None → (d ≡ e → ⊥) → FoundBy d (walk_from f e n d)) → FoundBy c (hopped e c o (walk_from f e n))
+  hop_found : (n c : ℕ) (o : Option ℕ) → f c ≡ o → hops f n o ≡ None → (c ≡ e → ⊥) → ((d : ℕ) → hops f n (Some d) ≡ None → (d ≡ e → ⊥) → FoundBy d (walk_from f e n d)) → FoundBy c (hopped e c o (walk_from f e n))
   unfolding hops
-  hop-found n c None p h other on = (apart_none c p other, (c, refl, p))
-  hop-found n c (Some d) p h other on =
+  hop_found n c None p h other on = (apart_none c p other, (c, refl, p))
+  hop_found n c (Some d) p h other on =
       let Goal : Bool → Type 0 = λ b. FoundBy c (cond b (record { followed = 1; cut = Some c }) (further (walk_from f e n d))) in
       ⊎_elim (λ q. subst Goal (sym (eq-eqb d e q)) (0, refl, refl, p ∙ ap Some q))
-      (λ q. subst Goal (sym (ne_eqb d e q)) (further-found c d (walk_from f e n d).followed (walk_from f e n d).cut p other (on d h q)))
+      (λ q. subst Goal (sym (ne_eqb d e q)) (further_found c d (walk_from f e n d).followed (walk_from f e n d).cut p other (on d h q)))
       (cases_eq d e)
 
   pub walk_found : (n c : ℕ) → hops f n (Some c) ≡ None → (c ≡ e → ⊥) → FoundBy c (walk_from f e n c)
   unfolding hops walk_from
   walk_found zero c h other = absurd (some_not_none _ refl h)
-  walk_found (suc n) c h other = hop-found n c (f c) refl h other (walk_found n)
+  walk_found (suc n) c h other = hop_found n c (f c) refl h other (walk_found n)
 
 -- what the cut links reach, those before reached
 cut_old : (f : Links) (k n y : ℕ) (o : Option ℕ) → hops (linked f k None) n o ≡ Some y → hops f n o ≡ Some y
@@ -93,18 +93,18 @@ module _ (limit : ℕ) (f : Links) (e c : ℕ) (ring : Ringless f) (within : Wit
   cut_below n None found = tt
   cut_below n (Some k) (m, i, q, r) = hops_below limit f m c k within low q
 
-  cutting-ringless : (o : Option ℕ) → Ringless (cutting f o)
-  cutting-ringless None = ring
-  cutting-ringless (Some k) = cut_ringless f k ring
+  cutting_ringless : (o : Option ℕ) → Ringless (cutting f o)
+  cutting_ringless None = ring
+  cutting_ringless (Some k) = cut_ringless f k ring
 
-  cutting-within : (o : Option ℕ) → Within limit (cutting f o)
-  cutting-within None = within
-  cutting-within (Some k) = within_linked limit f k None within tt
+  cutting_within : (o : Option ℕ) → Within limit (cutting f o)
+  cutting_within None = within
+  cutting_within (Some k) = within_linked limit f k None within tt
 
   -- after the cut no chain leads from c to e
-  cutting-apart : (n : ℕ) (o : Option ℕ) → Found f e c n o → Apart (cutting f o) c e
-  cutting-apart n None (never, last) j p = never j p
-  cutting-apart n (Some k) (m, i, q, r) j p =
+  cutting_apart : (n : ℕ) (o : Option ℕ) → Found f e c n o → Apart (cutting f o) c e
+  cutting_apart n None (never, last) j p = never j p
+  cutting_apart n (Some k) (m, i, q, r) j p =
       let g : Links = linked f k None in
       let same : j ≡ suc m = once f e j (suc m) (Some c) ring (cut_old f k j e (Some c) p) (after_some f m (Some c) k q ∙ r) in
       let last : hop g (hops g m (Some c)) ≡ Some e = sym (hops_last g m (Some c)) ∙ (sym (ap (λ i. hops g i (Some c)) same) ∙ p) in
@@ -116,16 +116,16 @@ module _ (limit : ℕ) (f : Links) (e c : ℕ) (ring : Ringless f) (within : Wit
       (cases_none (hops g m (Some c)))
 
   pub relinked_ringless : (n : ℕ) (o : Option ℕ) → Found f e c n o → Ringless (linked (cutting f o) e (Some c))
-  relinked_ringless n o found = link_ringless (cutting f o) e (Some c) (cutting-ringless o) (cutting-apart n o found)
+  relinked_ringless n o found = link_ringless (cutting f o) e (Some c) (cutting_ringless o) (cutting_apart n o found)
 
-  relinked-within : (o : Option ℕ) → Within limit (linked (cutting f o) e (Some c))
-  relinked-within o = within_linked limit (cutting f o) e (Some c) (cutting-within o) low
+  relinked_within : (o : Option ℕ) → Within limit (linked (cutting f o) e (Some c))
+  relinked_within o = within_linked limit (cutting f o) e (Some c) (cutting_within o) low
 
   -- only the one link is cut
-  relinked-cut : (n : ℕ) (o : Option ℕ) (k : ℕ) → Found f e c n o → Precedes f c e k → linked (cutting f o) e (Some c) k ≡ None
+  relinked_cut : (n : ℕ) (o : Option ℕ) (k : ℕ) → Found f e c n o → Precedes f c e k → linked (cutting f o) e (Some c) k ≡ None
   unfolding hops
-  relinked-cut n None k (never, last) (j, p, s) = absurd (never (suc j) (after_some f j (Some c) k p ∙ s))
-  relinked-cut n (Some l) k (m, i, q, r) (j, p, s) =
+  relinked_cut n None k (never, last) (j, p, s) = absurd (never (suc j) (after_some f j (Some c) k p ∙ s))
+  relinked_cut n (Some l) k (m, i, q, r) (j, p, s) =
       let same : suc j ≡ suc m = once f e (suc j) (suc m) (Some c) ring (after_some f j (Some c) k p ∙ s) (after_some f m (Some c) l q ∙ r) in
       let level : j ≡ m = omega arith in
       let t : Some k ≡ Some l = sym p ∙ (ap (λ i. hops f i (Some c)) level ∙ q) in
@@ -133,35 +133,35 @@ module _ (limit : ℕ) (f : Links) (e c : ℕ) (ring : Ringless f) (within : Wit
       let other : k ≡ e → ⊥ = λ z. ring 0 e (sym (ap f z) ∙ s) in
       other_link (linked f l None) e (Some c) k other ∙ (ap (linked f l None) u ∙ own_link f l None)
 
-  relinked-kept : (n : ℕ) (o : Option ℕ) (k : ℕ) → Found f e c n o → (k ≡ e → ⊥) → (Precedes f c e k → ⊥) → linked (cutting f o) e (Some c) k ≡ f k
-  relinked-kept n None k found other not = other_link f e (Some c) k other
-  relinked-kept n (Some l) k (m, i, q, r) other not =
+  relinked_kept : (n : ℕ) (o : Option ℕ) (k : ℕ) → Found f e c n o → (k ≡ e → ⊥) → (Precedes f c e k → ⊥) → linked (cutting f o) e (Some c) k ≡ f k
+  relinked_kept n None k found other not = other_link f e (Some c) k other
+  relinked_kept n (Some l) k (m, i, q, r) other not =
       other_link (linked f l None) e (Some c) k other
       ∙ other_link f l None k (λ z. not (m, q ∙ ap Some (sym z), ap f z ∙ r))
 
-  cutting-same : (n : ℕ) (o : Option ℕ) (x j : ℕ) → Found f e c n o → Apart f x e → hops (cutting f o) j (Some x) ≡ hops f j (Some x)
-  cutting-same n None x j found never = refl
-  cutting-same n (Some l) x j (m, i, q, r) never = avoids f l None j (Some x) (λ a p. never (suc a) (after_some f a (Some x) l p ∙ r))
+  cutting_same : (n : ℕ) (o : Option ℕ) (x j : ℕ) → Found f e c n o → Apart f x e → hops (cutting f o) j (Some x) ≡ hops f j (Some x)
+  cutting_same n None x j found never = refl
+  cutting_same n (Some l) x j (m, i, q, r) never = avoids f l None j (Some x) (λ a p. never (suc a) (after_some f a (Some x) l p ∙ r))
 
-  relinked-same : (n : ℕ) (o : Option ℕ) (x j : ℕ) → Found f e c n o → Apart f x e → hops (linked (cutting f o) e (Some c)) j (Some x) ≡ hops f j (Some x)
-  relinked-same n o x j found never =
-      avoids (cutting f o) e (Some c) j (Some x) (λ a p. never a (sym (cutting-same n o x a found never) ∙ p))
-      ∙ cutting-same n o x j found never
+  relinked_same : (n : ℕ) (o : Option ℕ) (x j : ℕ) → Found f e c n o → Apart f x e → hops (linked (cutting f o) e (Some c)) j (Some x) ≡ hops f j (Some x)
+  relinked_same n o x j found never =
+      avoids (cutting f o) e (Some c) j (Some x) (λ a p. never a (sym (cutting_same n o x a found never) ∙ p))
+      ∙ cutting_same n o x j found never
 
-  found-reaches : (n : ℕ) (o : Option ℕ) → Found f e c n o → Reaches f c e n
-  found-reaches n None found = inr found
-  found-reaches n (Some k) (m, i, q, r) = inl (ap (λ j. hops f j (Some c)) i ∙ (after_some f m (Some c) k q ∙ r))
+  found_reaches : (n : ℕ) (o : Option ℕ) → Found f e c n o → Reaches f c e n
+  found_reaches n None found = inr found
+  found_reaches n (Some k) (m, i, q, r) = inl (ap (λ j. hops f j (Some c)) i ∙ (after_some f m (Some c) k q ∙ r))
 
   reach_few : (n y : ℕ) → hops f n (Some c) ≡ Some y → n < limit
   reach_few n y p =
       ⊎_elim (λ h. h) (λ h. absurd (some_not_none _ p (ended f limit n (Some c) h (ends limit f c ring within low)))) (cases_lt n limit)
 
-  found-few : (n : ℕ) → Reaches f c e n → n < limit
-  found-few n reaches = ⊎_elim (reach_few n e) (λ p. reach_few n p.1.0 p.1.1) reaches
+  found_few : (n : ℕ) → Reaches f c e n → n < limit
+  found_few n reaches = ⊎_elim (reach_few n e) (λ p. reach_few n p.1.0 p.1.1) reaches
 
 module _ (limit : ℕ) (f : Links) (e : ℕ) (some : 1 ≤ limit) (ring : Ringless f) (within : Within limit f) where
-  linked-idle : (top : Option ℕ) → ((c : ℕ) → Handled limit top e c → ⊥) → Linked limit top e f f 0
-  linked-idle top idle = record {
+  linked_idle : (top : Option ℕ) → ((c : ℕ) → Handled limit top e c → ⊥) → Linked limit top e f f 0
+  linked_idle top idle = record {
     ringless = ring;
     within = within;
     chained = λ c h. absurd (idle c h);
@@ -180,26 +180,26 @@ module _ (limit : ℕ) (f : Links) (e : ℕ) (some : 1 ≤ limit) (ring : Ringle
       let w : Walk = walk_from f e limit d in
       let found : Found f e d w.followed w.cut = walk_found f e limit d (ends limit f d ring within low) here.other in
       let is : (c : ℕ) → Handled limit (Some d) e c → d ≡ c = λ c h. let p = h.topmost in cc in
-      let reaches : Reaches f d e w.followed = found-reaches limit f e d ring within low w.followed w.cut found in
+      let reaches : Reaches f d e w.followed = found_reaches limit f e d ring within low w.followed w.cut found in
       record {
         ringless = relinked_ringless limit f e d ring within low w.followed w.cut found;
-        within = relinked-within limit f e d ring within low w.cut;
+        within = relinked_within limit f e d ring within low w.cut;
         chained = λ c h. own_link (cutting f w.cut) e (Some d) ∙ ap Some (is c h);
-        cut = λ c k h p. relinked-cut limit f e d ring within low w.followed w.cut k found (subst (λ x. Precedes f x e k) (sym (is c h)) p);
-        kept = λ c k h other not. relinked-kept limit f e d ring within low w.followed w.cut k found other (λ p. not (subst (λ x. Precedes f x e k) (is c h) p));
-        same = λ x n never. relinked-same limit f e d ring within low w.followed w.cut x n found never;
+        cut = λ c k h p. relinked_cut limit f e d ring within low w.followed w.cut k found (subst (λ x. Precedes f x e k) (sym (is c h)) p);
+        kept = λ c k h other not. relinked_kept limit f e d ring within low w.followed w.cut k found other (λ p. not (subst (λ x. Precedes f x e k) (is c h) p));
+        same = λ x n never. relinked_same limit f e d ring within low w.followed w.cut x n found never;
         counted = λ c h. subst (λ x. Reaches f x e w.followed) (is c h) reaches;
-        few = found-few limit f e d ring within low w.followed reaches;
+        few = found_few limit f e d ring within low w.followed reaches;
         idle = λ none. absurd (none d here);
       }
 
   pub linking_keeps : (top : Option ℕ) → Linked limit top e f (contextualized limit f e top) (followed_by limit f e top)
   unfolding contextualized followed_by
-  linking_keeps None = linked-idle None (λ c h. some_not_none _ h.topmost refl)
+  linking_keeps None = linked_idle None (λ c h. some_not_none _ h.topmost refl)
   linking_keeps (Some d) =
       let Goal : Bool → Type 0 = λ b. Linked limit (Some d) e f (cond b (relinked limit f e d) f) (cond b (walk_from f e limit d).followed 0) in
       ⊎_elim (λ p. subst Goal (sym p) (linked_to d (record { topmost = refl; other = grind (arith, nat_tests); handled = grind (arith, nat_tests); raised = grind (arith, nat_tests) })))
-      (λ p. subst Goal (sym p) (linked-idle (Some d) (λ c h. let t = h.topmost in let u : d ≡ c = cc in grind (arith, nat_tests))))
+      (λ p. subst Goal (sym p) (linked_idle (Some d) (λ c h. let t = h.topmost in let u : d ≡ c = cc in grind (arith, nat_tests))))
       (cases_Bool (linkable limit e d))
 
 -- the same of a host that is left so
@@ -223,35 +223,35 @@ module _ (limit : ℕ) (f : Links) (e : ℕ) (top : Option ℕ) where
   unfolding followed_by contextualized
   answered_none p = (sym (ap (followed_by limit f e) p), sym (ap (contextualized limit f e) p))
 
-  answered-some : (c : ℕ) (b : Bool) → top ≡ Some c → linkable limit e c ≡ b → Answered (cond b (walk_from f e limit c).followed 0) (cond b (relinked limit f e c) f)
+  answered_some : (c : ℕ) (b : Bool) → top ≡ Some c → linkable limit e c ≡ b → Answered (cond b (walk_from f e limit c).followed 0) (cond b (relinked limit f e c) f)
   unfolding followed_by contextualized
-  answered-some c b p q = (
+  answered_some c b p q = (
     sym (ap (followed_by limit f e) p ∙ ap (λ t. cond t (walk_from f e limit c).followed 0) q),
     sym (ap (contextualized limit f e) p ∙ ap (λ t. cond t (relinked limit f e c) f) q),
   )
 
   pub answered_not : (c : ℕ) → top ≡ Some c → linkable limit e c ≡ false → Answered 0 f
-  answered_not c p q = answered-some c false p q
+  answered_not c p q = answered_some c false p q
 
   pub answered_linked : (c : ℕ) → top ≡ Some c → linkable limit e c ≡ true → Answered (walk_from f e limit c).followed (linked (cutting f (walk_from f e limit c).cut) e (Some c))
   unfolding relinked
-  answered_linked c p q = answered-some c true p q
+  answered_linked c p q = answered_some c true p q
 
 module _ (limit : ℕ) (w : World) (e c : ℕ) (lawful : Lawful limit w) (low : c < limit) (other : c ≡ e → ⊥) (walk : Walk) (is : walk ≡ walk_from w.links e limit c) where
-  walk-tells : Found w.links e c walk.followed walk.cut
-  walk-tells =
+  walk_tells : Found w.links e c walk.followed walk.cut
+  walk_tells =
       let f : Links = w.links in
       let end : hops f limit (Some c) ≡ None = ends limit f c lawful.ringless lawful.within low in
       subst (λ v. Found f e c v.followed v.cut) (sym is) (walk_found f e limit c end other)
 
   -- what linking owes for its two writes
   pub owed_cut : IfSome walk.cut (λ k. k < limit)
-  owed_cut = cut_below limit w.links e c lawful.ringless lawful.within low walk.followed walk.cut walk-tells
+  owed_cut = cut_below limit w.links e c lawful.ringless lawful.within low walk.followed walk.cut walk_tells
 
   pub owed_link : (v : World) → v ≡ with_links (cutting w.links walk.cut) w → Ringless (linked v.links e (Some c))
   owed_link v p =
       subst (λ u. Ringless (linked u.links e (Some c))) (sym p)
-      (relinked_ringless limit w.links e c lawful.ringless lawful.within low walk.followed walk.cut walk-tells)
+      (relinked_ringless limit w.links e c lawful.ringless lawful.within low walk.followed walk.cut walk_tells)
 
   pub links_done : (s : LevelList) (u v : World) → topmost_of s ≡ Some c → e < limit → v ≡ with_links (cutting w.links walk.cut) w → u ≡ relinking e (Some c) v → (walk.followed ≡ link_out limit s e w) × (u ≡ link_left limit s e w)
   links_done s u v p raised q r =

@@ -56,8 +56,8 @@ module _ (limit : ℕ) (f : Links) (e c : ℕ) where
         absurd (some_not_none (Some a) refl (sym (ap (λ i. hops f i (Some a)) k) ∙ going.left)))
         (cases_lt n limit)
 
-    going-hop : (o : Option ℕ) → f a ≡ o → walk_from f e limit c ≡ plus n (hopped e a o (walk_from f e (limit - (n + 1))))
-    going-hop o p =
+    going_hop : (o : Option ℕ) → f a ≡ o → walk_from f e limit c ≡ plus n (hopped e a o (walk_from f e (limit - (n + 1))))
+    going_hop o p =
         let few : n < limit = going_few in
         let k : limit - n - 1 ≡ limit - (n + 1) = omega arith in
         going.same ∙ ap (plus n) (walk_step f e (limit - n) a (omega arith) ∙ (ap (λ i. hopped e a (f a) (walk_from f e i)) k ∙ ap (λ q. hopped e a q (walk_from f e (limit - (n + 1)))) p))
@@ -71,14 +71,14 @@ module _ (limit : ℕ) (f : Links) (e c : ℕ) where
           low = within a d p;
           few = omega arith;
           left = sym (ap (λ i. hops f i (Some d)) k) ∙ (sym (ap (hops f (limit - n - 1)) p) ∙ (sym (hops_step f (limit - n) a (omega arith)) ∙ going.left));
-          same = going-hop (Some d) p ∙ (ap (λ b. plus n (cond b (record { followed = 1; cut = Some a }) (further w))) (ne_eqb d e other) ∙ plus_more n w);
+          same = going_hop (Some d) p ∙ (ap (λ b. plus n (cond b (record { followed = 1; cut = Some a }) (further w))) (ne_eqb d e other) ∙ plus_more n w);
         }
 
     pub going_found : (d : ℕ) → f a ≡ Some d → d ≡ e → record { followed = n + 1; cut = Some a } ≡ walk_from f e limit c
     going_found d p q =
-        sym (going-hop (Some d) p ∙ ap (λ b. plus n (cond b (record { followed = 1; cut = Some a }) (further (walk_from f e (limit - (n + 1)) d)))) (eq-eqb d e q))
+        sym (going_hop (Some d) p ∙ ap (λ b. plus n (cond b (record { followed = 1; cut = Some a }) (further (walk_from f e (limit - (n + 1)) d)))) (eq-eqb d e q))
 
     pub going_ended : f a ≡ None → record { followed = n; cut = None } ≡ walk_from f e limit c
     going_ended p =
         let k : n + 0 ≡ n = omega arith in
-        sym (going-hop None p ∙ ap (λ i. record { followed = i; cut = None }) k)
+        sym (going_hop None p ∙ ap (λ i. record { followed = i; cut = None }) k)
