@@ -18,7 +18,7 @@ pub struct LevelToken {
     level: u8,
 }
 
-#[derive(Clone, Copy, Debug, PartialEq)]
+#[derive(Clone, Copy, Debug, PartialEq, Eq)]
 pub enum OpenRefused {
     TooManyLevels,
     ExceptionTooHigh,

@@ -9,7 +9,7 @@ use crate::levels::Levels;
 use crate::world::Exceptions;
 
 // A walk over links: how many it followed, and whose link led to the exception sought, if one did.
-#[derive(Clone, Copy)]
+#[derive(Clone, Copy, Debug, PartialEq, Eq)]
 pub struct Walk {
     pub followed: u16,
     pub cut: Option<u16>,

@@ -1,12 +1,12 @@
 // What an iterator gives when it is asked for its next value.
-#[derive(Clone, Copy, Debug, PartialEq)]
+#[derive(Clone, Copy, Debug, PartialEq, Eq)]
 pub enum PyIterReturn {
     Return(u32),
     StopIteration(Option<u32>),
 }
 
 // What went wrong, where the machine asks its host for an exception.
-#[derive(Clone, Copy, Debug, PartialEq)]
+#[derive(Clone, Copy, Debug, PartialEq, Eq)]
 pub enum FailKind {
     UnboundLocal = 1,
     NoEnter = 2,

@@ -4,7 +4,7 @@ ghost use Rattle.std.specs.Prelude.{◌≤◌};
 mod calls;
 
 // Why blocks are being removed.
-#[derive(Clone, Copy)]
+#[derive(Clone, Copy, Debug, PartialEq, Eq)]
 pub enum UnwindReason {
     Returning { value: u32 },
     Raising { exception: u16 },
@@ -12,7 +12,7 @@ pub enum UnwindReason {
     Continue { target: u16 },
 }
 
-#[derive(Clone, Copy)]
+#[derive(Clone, Copy, Debug, PartialEq, Eq)]
 pub enum BlockType {
     Loop,
     TryExcept {
@@ -33,7 +33,7 @@ pub enum BlockType {
 }
 
 // A block, and the length of the stack when it was put up.
-#[derive(Clone, Copy)]
+#[derive(Clone, Copy, Debug, PartialEq, Eq)]
 pub struct Block {
     pub typ: BlockType,
     pub level: usize,

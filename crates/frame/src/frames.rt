@@ -8,7 +8,7 @@ use crate::blocks::{Block, BlockTable};
 use crate::stack::Stack;
 
 // Ready to run, suspended by a yield, left by a return or a raise, or stopped by a fault.
-#[derive(Clone, Copy)]
+#[derive(Clone, Copy, Debug, PartialEq, Eq)]
 pub enum Status {
     Ready,
     Suspended,
@@ -17,7 +17,7 @@ pub enum Status {
 }
 
 // Counted from the new frame on.
-#[derive(Clone, Copy)]
+#[derive(Clone, Copy, Debug, PartialEq, Eq)]
 pub struct Counts {
     // instructions begun
     pub steps: u64,
@@ -34,7 +34,7 @@ pub struct Counts {
 }
 
 // Over 64 arguments.
-#[derive(Clone, Copy)]
+#[derive(Clone, Copy, Debug, PartialEq, Eq)]
 pub struct TooManyArguments {
     pub given: usize,
 }

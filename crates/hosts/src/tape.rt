@@ -15,7 +15,7 @@ pub struct Tape<'a> {
 }
 
 // What a question takes off the tape.
-#[derive(Clone, Copy)]
+#[derive(Clone, Copy, Debug, PartialEq, Eq)]
 struct Entry {
     kind: u8,
     number: u32,

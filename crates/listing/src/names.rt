@@ -5,7 +5,7 @@ ghost use Rattle.listing.specs.Names.{name_of, operand_of};
 use table::instructions::{Instruction, RaiseKind};
 
 // An operand by what it names.
-#[derive(Clone, Copy)]
+#[derive(Clone, Copy, Debug, PartialEq, Eq)]
 pub enum Operand {
     Nothing,
     Constant(u16),

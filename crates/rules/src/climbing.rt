@@ -11,7 +11,7 @@ use table::tables::Table;
 const MOST_NODES: u8 = 32;
 
 // Where a continue comes out: the nearest Loop (0 for none), and the depth at which it is reached.
-#[derive(Clone, Copy)]
+#[derive(Clone, Copy, Debug, PartialEq, Eq)]
 pub struct Landing {
     pub node: u16,
     pub depth: i32,

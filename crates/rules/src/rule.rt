@@ -5,7 +5,7 @@ ghost use Rattle.rules.specs.Rule.{demand};
 use table::records::NodeKind;
 
 // How control comes to an instruction: as the frame's first, from the one before, or by a jump.
-#[derive(Clone, Copy)]
+#[derive(Clone, Copy, Debug, PartialEq, Eq)]
 pub enum Way {
     Start,
     Next,
@@ -13,14 +13,14 @@ pub enum Way {
 }
 
 // Whose node a rule speaks of: the instruction's own, the one that it puts up, or that of a node's handler.
-#[derive(Clone, Copy)]
+#[derive(Clone, Copy, Debug, PartialEq, Eq)]
 pub enum Whose {
     Own,
     Child,
     Handler,
 }
 
-#[derive(Clone, Copy)]
+#[derive(Clone, Copy, Debug, PartialEq, Eq)]
 pub enum Rule {
     // a node's kind is one of the five
     KnownKind {

@@ -3,20 +3,20 @@ ghost use Rattle.std.specs.Prelude.{◌≡◌};
 ghost use Rattle.table.specs.Instructions.{Decoded, bare, decoding, encoding, raise_number, flag, listed, raise_kind, under, word};
 
 // An instruction as it stands in the bytes.
-#[derive(Clone, Copy)]
+#[derive(Clone, Copy, Debug, PartialEq, Eq)]
 pub struct Word {
     pub opcode: u8,
     pub x: u8,
     pub y: u16,
 }
 
-#[derive(Clone, Copy)]
+#[derive(Clone, Copy, Debug, PartialEq, Eq)]
 pub enum RaiseKind {
     Reraise,
     Raise,
 }
 
-#[derive(Clone, Copy)]
+#[derive(Clone, Copy, Debug, PartialEq, Eq)]
 pub enum Instruction {
     LoadConst { idx: u16 },
     LoadFast { idx: u16 },
@@ -49,7 +49,7 @@ pub enum Instruction {
 }
 
 // What the table has of each thing that an operand can name.
-#[derive(Clone, Copy)]
+#[derive(Clone, Copy, Debug, PartialEq, Eq)]
 pub struct Limits {
     pub instructions: usize,
     pub constants: usize,

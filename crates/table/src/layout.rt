@@ -4,14 +4,14 @@ ghost use Rattle.table.specs.Layout.{layout_of, span_at};
 use crate::fields::{u16_at, u32_at};
 
 // A part's place in the bytes, as its pair gives it.
-#[derive(Clone, Copy)]
+#[derive(Clone, Copy, Debug, PartialEq, Eq)]
 pub struct Span {
     pub offset: u32,
     pub length: u32,
 }
 
 // The header: four numbers and the five parts' places, as they stand in the bytes.
-#[derive(Clone, Copy)]
+#[derive(Clone, Copy, Debug, PartialEq, Eq)]
 pub struct Layout {
     pub maximum: u16,
     pub locals: u16,

@@ -6,14 +6,14 @@ use crate::fields::u16_at;
 use crate::instructions::Word;
 
 // What stands before an instruction: so many values on the stack, and the topmost block's node (0 for no block).
-#[derive(Clone, Copy)]
+#[derive(Clone, Copy, Debug, PartialEq, Eq)]
 pub struct Shape {
     pub depth: u16,
     pub node: u16,
 }
 
 // The kind of block that a node declares; loading takes any byte, and the check refuses unknown ones.
-#[derive(Clone, Copy)]
+#[derive(Clone, Copy, Debug, PartialEq, Eq)]
 pub enum NodeKind {
     Loop,
     TryExcept,
@@ -25,7 +25,7 @@ pub enum NodeKind {
 
 // A block as the table declares it: the node below it (0 for none), the stack's length when it is put up,
 // where its handler begins, and whether its clean-up ends as a with statement's does (1) or not (0).
-#[derive(Clone, Copy)]
+#[derive(Clone, Copy, Debug, PartialEq, Eq)]
 pub struct Node {
     pub kind: NodeKind,
     pub end: u8,

@@ -5,7 +5,7 @@ ghost use Rattle.table.specs.Refusals.{number_of, place_of};
 use crate::instructions::{Limits, Word};
 
 // The parts of a table, in the order of their pairs.
-#[derive(Clone, Copy)]
+#[derive(Clone, Copy, Debug, PartialEq, Eq)]
 pub enum Part {
     Instructions,
     Shapes,
@@ -15,7 +15,7 @@ pub enum Part {
 }
 
 // The numbers at the head of a table, in their order.
-#[derive(Clone, Copy)]
+#[derive(Clone, Copy, Debug, PartialEq, Eq)]
 pub enum Field {
     MaximumDepth,
     Locals,
@@ -23,7 +23,7 @@ pub enum Field {
     PairCount,
 }
 
-#[derive(Clone, Copy)]
+#[derive(Clone, Copy, Debug, PartialEq, Eq)]
 pub enum Refusal {
     // 1: fewer than 48 bytes or more than 65,536
     Size {

@@ -1,5 +1,5 @@
 // A table: two numbers, and five parts that are borrowed from the bytes it was loaded from.
-#[derive(Clone, Copy)]
+#[derive(Clone, Copy, Debug, PartialEq, Eq)]
 pub struct Table<'a> {
     pub(crate) maximum: u16,
     pub(crate) locals: u16,

@@ -4,7 +4,7 @@ ghost use Rattle.table_check.specs.Broken.{number_of, place_of};
 
 use rules::rule::Rule;
 
-#[derive(Clone, Copy)]
+#[derive(Clone, Copy, Debug, PartialEq, Eq)]
 pub enum Broken {
     // 10: a node breaks a rule
     Node { number: usize, rule: Rule },
