@@ -1,5 +1,5 @@
 -- Linking keeps what is said of it.
-use Rattle.std.proofs.Common.{◌≡◌, ℕ, zero, suc, ◌+◌, ◌<◌, ◌≤◌, Bool, true, false, cond, ◌∷◌, IfSome, Some, None, Option, unwrap_or, sym, refl, ap, ◌∙◌, subst, inl, inr, ⊎_elim, add-one, arith}
+use Rattle.std.proofs.Common.{◌≡◌, ℕ, zero, suc, ◌+◌, ◌<◌, ◌≤◌, Bool, cond, ◌∷◌, IfSome, Some, None, Option, unwrap_or, sym, refl, ap, ◌∙◌, subst, inl, inr, ⊎_elim, add-one, arith}
 use Rattle.std.proofs.lemmas.Bool.{cases_eq, cases_lt, cases_Bool, eq-eqb, ne_eqb}
 use Rattle.std.proofs.lemmas.Bool.Decides.{nat_tests}
 use Rattle.exceptions.specs.declared.linking.Walk.{Walk}
@@ -7,7 +7,7 @@ use Rattle.exceptions.specs.Links.{Links, linked, hop, hops, Ringless, Within}
 use Rattle.exceptions.specs.Linking.{further, hopped, walk_from, cutting, relinked, linkable, contextualized, followed_by, link_out, link_left}
 use Rattle.exceptions.specs.Chaining.{Handled, Precedes, Apart, Reaches, Linked, Chains, Implicit-chaining}
 use Rattle.exceptions.specs.Levels.{LevelList, topmost_of}
-use Rattle.exceptions.specs.World.{World, Lawful, asked, with_links, relinking}
+use Rattle.exceptions.specs.World.{World, Lawful, asked, with_links}
 use Rattle.exceptions.specs.Questions.{Question}
 use Rattle.exceptions.proofs.Rings.{
   hops_none,
@@ -77,15 +77,15 @@ unfolding hops
 cut_old f k zero y o p = p
 cut_old f k (suc n) y None p = cut_old f k n y None p
 cut_old f k (suc n) y (Some x) p =
-    ⊎_elim (λ q. absurd (some_not_none _ p (ap (λ b. hops (linked f k None) n (cond b None (f x))) (eq-eqb x k q) ∙ hops_none (linked f k None) n)))
-    (λ q. cut_old f k n y (f x) (sym (ap (λ b. hops (linked f k None) n (cond b None (f x))) (ne_eqb x k q)) ∙ p))
-    (cases_eq x k)
+    let on = cut_old f k n y (f x) in
+    let end = hops_none (linked f k None) n in
+    grind (arith, nat_tests)
 
 other_link : (f : Links) (e : ℕ) (c : Option ℕ) (k : ℕ) → (k ≡ e → ⊥) → linked f e c k ≡ f k
-other_link f e c k other = ap (λ b. cond b c (f k)) (ne_eqb k e other)
+other_link f e c k other = grind (arith, nat_tests)
 
 own_link : (f : Links) (e : ℕ) (c : Option ℕ) → linked f e c e ≡ c
-own_link f e c = ap (λ b. cond b c (f e)) (eq-eqb e e refl)
+own_link f e c = grind (arith, nat_tests)
 
 module _ (limit : ℕ) (f : Links) (e c : ℕ) (ring : Ringless f) (within : Within limit f) (low : c < limit) where
   -- the links cut are ringless and within the limit
@@ -202,10 +202,14 @@ module _ (limit : ℕ) (f : Links) (e : ℕ) (some : 1 ≤ limit) (ring : Ringle
       (λ p. subst Goal (sym p) (linked_idle (Some d) (λ c h. let t = h.topmost in let u : d ≡ c = cc in grind (arith, nat_tests))))
       (cases_Bool (linkable limit e d))
 
+-- the number answered, and the host left
+abbrev pub Told : ℕ → LevelList → ℕ → World → ℕ → World → Type 0
+Told limit s e before r after = (r ≡ link_out limit s e before) × (after ≡ link_left limit s e before)
+
 -- the same of a host that is left so
-pub left_chains : (limit : ℕ) (s : LevelList) (e r : ℕ) (before after : World) → Lawful limit before → r ≡ link_out limit s e before → after ≡ link_left limit s e before → Chains limit s e before after r
+pub left_chains : (limit : ℕ) (s : LevelList) (e r : ℕ) (before after : World) → Lawful limit before → Told limit s e before r after → Chains limit s e before after r
 unfolding Chains
-left_chains limit s e r before after lawful p q =
+left_chains limit s e r before after lawful (p, q) =
     let Goal : ℕ → World → Type 0 = λ n w. Linked limit (topmost_of s) e before.links w.links n in
     subst (λ n. Goal n after) (sym p)
     (subst (Goal (link_out limit s e before)) (sym q)
@@ -214,28 +218,6 @@ left_chains limit s e r before after lawful p q =
 pub chains_implicit : (limit : ℕ) (s : LevelList) (e r : ℕ) (before after : World) → Chains limit s e before after r → Implicit-chaining limit s e before after
 unfolding Chains Implicit-chaining
 chains_implicit limit s e r before after chains c h none = chains.chained c h
-
-module _ (limit : ℕ) (f : Links) (e : ℕ) (top : Option ℕ) where
-  abbrev pub Answered : ℕ → Links → Type 0
-  Answered n g = (n ≡ followed_by limit f e top) × (g ≡ contextualized limit f e top)
-
-  pub answered_none : top ≡ None → Answered 0 f
-  unfolding followed_by contextualized
-  answered_none p = (sym (ap (followed_by limit f e) p), sym (ap (contextualized limit f e) p))
-
-  answered_some : (c : ℕ) (b : Bool) → top ≡ Some c → linkable limit e c ≡ b → Answered (cond b (walk_from f e limit c).followed 0) (cond b (relinked limit f e c) f)
-  unfolding followed_by contextualized
-  answered_some c b p q = (
-    sym (ap (followed_by limit f e) p ∙ ap (λ t. cond t (walk_from f e limit c).followed 0) q),
-    sym (ap (contextualized limit f e) p ∙ ap (λ t. cond t (relinked limit f e c) f) q),
-  )
-
-  pub answered_not : (c : ℕ) → top ≡ Some c → linkable limit e c ≡ false → Answered 0 f
-  answered_not c p q = answered_some c false p q
-
-  pub answered_linked : (c : ℕ) → top ≡ Some c → linkable limit e c ≡ true → Answered (walk_from f e limit c).followed (linked (cutting f (walk_from f e limit c).cut) e (Some c))
-  unfolding relinked
-  answered_linked c p q = answered_some c true p q
 
 module _ (limit : ℕ) (w : World) (e c : ℕ) (lawful : Lawful limit w) (low : c < limit) (other : c ≡ e → ⊥) (walk : Walk) (is : walk ≡ walk_from w.links e limit c) where
   walk_tells : Found w.links e c walk.followed walk.cut
@@ -252,14 +234,6 @@ module _ (limit : ℕ) (w : World) (e c : ℕ) (lawful : Lawful limit w) (low : 
   owed_link v p =
       subst (λ u. Ringless (linked u.links e (Some c))) (sym p)
       (relinked_ringless limit w.links e c lawful.ringless lawful.within low walk.followed walk.cut walk_tells)
-
-  pub links_done : (s : LevelList) (u v : World) → topmost_of s ≡ Some c → e < limit → v ≡ with_links (cutting w.links walk.cut) w → u ≡ relinking e (Some c) v → (walk.followed ≡ link_out limit s e w) × (u ≡ link_left limit s e w)
-  links_done s u v p raised q r =
-      let linkable-so : linkable limit e c ≡ true = grind (arith, nat_tests) in
-      let a : Answered limit w.links e (topmost_of s) walk.followed (linked (cutting w.links walk.cut) e (Some c)) =
-      subst (λ v. Answered limit w.links e (topmost_of s) v.followed (linked (cutting w.links v.cut) e (Some c))) (sym is)
-      (answered_linked limit w.links e (topmost_of s) c p linkable-so) in
-      (a.0, r ∙ (ap (relinking e (Some c)) q ∙ ap (λ f. with_links f w) a.1))
 
 -- a question and linking leave a lawful host lawful
 pub asked_lawful : (limit : ℕ) (q : Question) (w : World) → Lawful limit w → Lawful limit (asked q w)

@@ -1,5 +1,5 @@
 pub mod Keeping
 pub mod Rings
 pub mod Standing
-mod Tabling
+pub mod Tabling
 mod Walking

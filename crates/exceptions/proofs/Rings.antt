@@ -1,5 +1,6 @@
 -- What holds of chains of links, and which changes of a link make no ring.
 use Rattle.std.proofs.Common.{◌≡◌, ℕ, zero, suc, ◌+◌, ◌-◌, ◌<◌, ◌≤◌, cond, eqb, ◌⊎◌, Some, None, Option, unwrap_or, sym, refl, ap, ◌∙◌, inl, inr, ⊎_elim, suc-add, zero-add, arith}
+use Rattle.std.proofs.lemmas.Option.{none-some}
 use Rattle.std.proofs.lemmas.Bool.{cases_eq, cases_order, ne_eqb, eq-eqb}
 use Rattle.std.proofs.lemmas.Bool.Decides.{nat_tests}
 use Rattle.exceptions.specs.Links.{Links, linked, hop, hops, Ringless, Within}
@@ -32,7 +33,7 @@ pub ended : (f : Links) (m n : ℕ) (o : Option ℕ) → m ≤ n → hops f m o 
 ended f m n o h e = hops_rest f m n o h ∙ (ap (hops f (n - m)) e ∙ hops_none f (n - m))
 
 pub some_not_none : {x : ℕ} (o : Option ℕ) → o ≡ Some x → o ≡ None → ⊥
-some_not_none o p q = let z : ◌≡◌ {A = ℕ} 0 1 = cc in omega arith
+some_not_none o p q = none-some _ (sym q ∙ p)
 
 pub cases_none : (o : Option ℕ) → (o ≡ None) ⊎ (o ≡ Some (unwrap_or o 0))
 cases_none None = inl refl
@@ -56,8 +57,9 @@ unfolding hops
 avoids f e c zero o never = refl
 avoids f e c (suc n) None never = avoids f e c n None never
 avoids f e c (suc n) (Some y) never =
-    let s : cond (eqb y e) c (f y) ≡ f y = ap (λ b. cond b c (f y)) (ne_eqb y e (λ p. never 0 (ap Some p))) in
-    ap (hops (linked f e c) n) s ∙ avoids f e c n (f y) (λ m. never (suc m))
+    let other : y ≡ e → ⊥ = λ p. never 0 (ap Some p) in
+    let on = avoids f e c n (f y) (λ m. never (suc m)) in
+    grind (arith, nat_tests)
 
 -- a chain is as it was when the link of e changes, or it leads to e
 passes : (f : Links) (e : ℕ) (c : Option ℕ) (n : ℕ) (o : Option ℕ) → (hops (linked f e c) n o ≡ hops f n o) ⊎ ((i : ℕ) × (hops (linked f e c) i o ≡ Some e))

@@ -1,14 +1,13 @@
 -- Links that stand in an array.
-use Rattle.std.proofs.Common.{◌≡◌, ℕ, zero, suc, ◌<◌, List, length, set, replicate, IfSome, Some, None, Option, sym, refl, subst, arith, get_or-set_other, get_or-set_same}
+use Rattle.std.proofs.Common.{◌≡◌, ℕ, ◌<◌, List, length, set, replicate, IfSome, Some, None, Option, sym, subst, arith}
 use mathlib.Core.Path.{fun_ext}
+use Rattle.std.proofs.lemmas.Grind.{common_steps}
 use Rattle.std.proofs.lemmas.Bool.Decides.{nat_tests}
 use Rattle.exceptions.specs.Links.{Links, linked, unlinked, hops, Ringless, Within, tabled}
 use Rattle.exceptions.proofs.Rings.{hops_none, some_not_none}
 
 none_at : (n k : ℕ) → tabled (replicate n None) k ≡ None
-none_at zero k = refl
-none_at (suc n) zero = refl
-none_at (suc n) (suc k) = none_at n k
+none_at n k = grind (arith, common_steps)
 
 pub tabled_none : (n : ℕ) → tabled (replicate n None) ≡ unlinked
 tabled_none n = fun_ext (none_at n)
@@ -19,7 +18,7 @@ unlinked_ringless n x e = some_not_none _ e (hops_none unlinked n)
 
 pub tabled_set : (xs : List (Option ℕ)) (e : ℕ) (c : Option ℕ) → e < length xs → tabled (set xs e c) ≡ linked (tabled xs) e c
 tabled_set xs e c h =
-    fun_ext (λ k. let a = get_or-set_same xs e c None h in let b = get_or-set_other xs e k c None in grind (arith, nat_tests))
+    fun_ext (λ k. grind (arith, common_steps))
 
 pub within_linked : (limit : ℕ) (f : Links) (e : ℕ) (c : Option ℕ) → Within limit f → IfSome c (λ y. y < limit) → Within limit (linked f e c)
 within_linked limit f e None w h x y = let b = w x y in grind (arith, nat_tests)

@@ -1,6 +1,7 @@
 -- A walk over links, while it goes on.
-use Rattle.std.proofs.Common.{◌≡◌, ℕ, zero, suc, ◌+◌, ◌-◌, ◌<◌, ◌≤◌, cond, Some, None, Option, sym, refl, ap, ◌∙◌, ⊎_elim, arith}
-use Rattle.std.proofs.lemmas.Bool.{cases_lt, eq-eqb, ne_eqb}
+use Rattle.std.proofs.Common.{◌≡◌, ℕ, zero, suc, ◌+◌, ◌-◌, ◌<◌, ◌≤◌, Some, None, Option, sym, refl, ap, ◌∙◌, ⊎_elim, arith}
+use Rattle.std.proofs.lemmas.Bool.Decides.{nat_tests}
+use Rattle.std.proofs.lemmas.Bool.{cases_lt}
 use Rattle.exceptions.specs.declared.linking.Walk.{Walk}
 use Rattle.exceptions.specs.Links.{Links, hops, Ringless, Within}
 use Rattle.exceptions.specs.Linking.{further, hopped, walk_from}
@@ -18,12 +19,10 @@ pub record Going (limit : ℕ) (f : Links) (e c n a : ℕ) : Type 0 where
   pub same : walk_from f e limit c ≡ plus n (walk_from f e (limit - n) a)
 
 plus_none : (w : Walk) → w ≡ plus 0 w
-plus_none w = let k : w.followed ≡ 0 + w.followed = omega arith in ap (λ n. record { followed = n; cut = w.cut }) k
+plus_none w = grind arith
 
 plus_more : (n : ℕ) (w : Walk) → plus n (further w) ≡ plus (n + 1) w
-plus_more n w =
-    let k : n + (w.followed + 1) ≡ n + 1 + w.followed = omega arith in
-    ap (λ m. record { followed = m; cut = w.cut }) k
+plus_more n w = grind arith
 
 hops_step : (f : Links) (m a : ℕ) → 0 < m → hops f m (Some a) ≡ hops f (m - 1) (f a)
 unfolding hops
@@ -60,7 +59,9 @@ module _ (limit : ℕ) (f : Links) (e c : ℕ) where
     going_hop o p =
         let few : n < limit = going_few in
         let k : limit - n - 1 ≡ limit - (n + 1) = omega arith in
-        going.same ∙ ap (plus n) (walk_step f e (limit - n) a (omega arith) ∙ (ap (λ i. hopped e a (f a) (walk_from f e i)) k ∙ ap (λ q. hopped e a q (walk_from f e (limit - (n + 1)))) p))
+        let s = going.same in
+        let w = walk_step f e (limit - n) a (omega arith) in
+        cc
 
     pub going_on : (d : ℕ) → Within limit f → f a ≡ Some d → (d ≡ e → ⊥) → Going limit f e c (n + 1) d
     going_on d within p other =
@@ -70,15 +71,12 @@ module _ (limit : ℕ) (f : Links) (e c : ℕ) where
         record {
           low = within a d p;
           few = omega arith;
-          left = sym (ap (λ i. hops f i (Some d)) k) ∙ (sym (ap (hops f (limit - n - 1)) p) ∙ (sym (hops_step f (limit - n) a (omega arith)) ∙ going.left));
-          same = going_hop (Some d) p ∙ (ap (λ b. plus n (cond b (record { followed = 1; cut = Some a }) (further w))) (ne_eqb d e other) ∙ plus_more n w);
+          left = let h = hops_step f (limit - n) a (omega arith) in let l = going.left in grind arith;
+          same = let s = going_hop (Some d) p in let m = plus_more n w in grind (arith, nat_tests);
         }
 
     pub going_found : (d : ℕ) → f a ≡ Some d → d ≡ e → record { followed = n + 1; cut = Some a } ≡ walk_from f e limit c
-    going_found d p q =
-        sym (going_hop (Some d) p ∙ ap (λ b. plus n (cond b (record { followed = 1; cut = Some a }) (further (walk_from f e (limit - (n + 1)) d)))) (eq-eqb d e q))
+    going_found d p q = let s = going_hop (Some d) p in grind (arith, nat_tests)
 
     pub going_ended : f a ≡ None → record { followed = n; cut = None } ≡ walk_from f e limit c
-    going_ended p =
-        let k : n + 0 ≡ n = omega arith in
-        sym (going_hop None p ∙ ap (λ i. record { followed = i; cut = None }) k)
+    going_ended p = let s = going_hop None p in grind arith

@@ -1,6 +1,6 @@
 -- Levels: the exceptions being handled, one level upon the other.
-use Rattle.std.specs.Prelude.{◌≡◌, ℕ, zero, suc, ◌-◌, Bool, true, cond, ◌&&◌, List, [], ◌∷◌, length, Some, None, Ok, Err, Option, Result, ◌==◌, nat_lt, slice_index_or}
-use Rattle.exceptions.specs.declared.levels.Levels.{Levels}
+use Rattle.std.specs.Prelude.{◌≡◌, ℕ, suc, ◌-◌, Bool, true, cond, ◌&&◌, List, [], ◌∷◌, length, Some, None, Ok, Err, Option, Result, ◌==◌, nat_lt, slice_index_or}
+use Rattle.std.specs.Option.{option_or}
 use Rattle.exceptions.specs.declared.levels.LevelToken.{LevelToken}
 use Rattle.exceptions.specs.declared.levels.CloseRefused.{CloseRefused}
 use Rattle.exceptions.specs.declared.levels.OpenRefused.{OpenRefused}
@@ -11,14 +11,6 @@ pub record LevelList : Type 0 where
   pub exceptions : ℕ
   pub last : Option ℕ
   pub lower : List (Option ℕ)
-
--- the first n of an array, the last of them first
-unfoldable pub upto : List (Option ℕ) → ℕ → List (Option ℕ)
-upto xs zero = []
-upto xs (suc n) = slice_index_or xs n None ∷ upto xs n
-
-abbrev pub levels_of : Levels → LevelList
-levels_of s = record { exceptions = s.exceptions; last = slice_index_or s.held s.opened None; lower = upto s.held s.opened }
 
 -- at first there is one level, empty
 abbrev pub first_level : ℕ → LevelList
@@ -32,13 +24,9 @@ abbrev pub level_at : ℕ → LevelList → Option ℕ
 level_at i s = cond (nat_lt i (level_count s)) (slice_index_or (s.last ∷ s.lower) (length s.lower - i) None) None
 
 -- the exception of the first of the levels that holds one
-abbrev pub or_else : Option ℕ → Option ℕ → Option ℕ
-or_else None o = o
-or_else (Some e) o = Some e
-
 unfoldable pub topmost_in : List (Option ℕ) → Option ℕ
 topmost_in [] = None
-topmost_in (l ∷ ls) = or_else l (topmost_in ls)
+topmost_in (l ∷ ls) = option_or l (topmost_in ls)
 
 -- the topmost exception: that of the highest level that holds one
 abbrev pub topmost_of : LevelList → Option ℕ

@@ -1,7 +1,6 @@
 ghost use Rattle.std.specs.Prelude.{◌≡◌, ◌<◌, IfSome};
 ghost use Rattle.exceptions.specs.Links.{Ringless};
 ghost use Rattle.exceptions.specs.World.{with_links};
-ghost use Rattle.exceptions.specs.Levels.{levels_of};
 ghost use Rattle.exceptions.specs.Chaining.{Chains, Implicit-chaining};
 ghost use Rattle.exceptions.specs.Linking.{walk_from, cutting, link_out, link_left};
 
@@ -17,12 +16,11 @@ pub struct Walk {
 
 // Links `e` to the topmost exception, and gives the number of links followed from there.
 pub fn contextualize_exception<X: Exceptions>(x: &mut X, levels: &Levels, e: u16) -> u16
-    ensures told { result ≡ link_out X.Exceptions.limit (levels_of levels.now) e (X.Exceptions.world x.old) }
-    ensures left { X.Exceptions.world x.new ≡ link_left X.Exceptions.limit (levels_of levels.now) e (X.Exceptions.world x.old) }
-    ensures chains { Chains X.Exceptions.limit (levels_of levels.now) e (X.Exceptions.world x.old) (X.Exceptions.world x.new) result }
-    ensures implicit { Implicit-chaining X.Exceptions.limit (levels_of levels.now) e (X.Exceptions.world x.old) (X.Exceptions.world x.new) }
+    ensures told { result ≡ link_out X.limit levels.now e (X.world x.old) }
+    ensures left { X.world x.new ≡ link_left X.limit levels.now e (X.world x.old) }
+    ensures chains { Chains X.limit levels.now e (X.world x.old) (X.world x.new) result }
+    ensures implicit { Implicit-chaining X.limit levels.now e (X.world x.old) (X.world x.new) }
 {
-    x.vouch();
     let Some(c) = levels.topmost() else {
         return 0;
     };
@@ -37,10 +35,10 @@ pub fn contextualize_exception<X: Exceptions>(x: &mut X, levels: &Levels, e: u16
 
 // Follows links from `c` until one leads to `e` or there are no more.
 fn follow<X: Exceptions>(x: &X, e: u16, c: u16) -> Walk
-    requires { c < X.Exceptions.limit }
-    ensures { result ≡ walk_from (X.Exceptions.world x.now).links e X.Exceptions.limit c }
+    requires { c < X.limit }
+    ensures { result ≡ walk_from (X.world x.now).links e X.limit c }
 {
-    x.vouch();
+    // Kept: a chain of iterators would have to carry each exception with the one that its link leads to, and prove that it ends.
     let mut at = c;
     let mut followed = 0;
     while let Some(next) = x.context(at) {
@@ -61,10 +59,9 @@ fn follow<X: Exceptions>(x: &X, e: u16, c: u16) -> Walk
 
 // Cuts the link of `k`, if there is one to cut.
 fn strike<X: Exceptions>(x: &mut X, k: Option<u16>)
-    requires { IfSome k (λ y. y < X.Exceptions.limit) }
-    ensures { X.Exceptions.world x.new ≡ with_links (cutting (X.Exceptions.world x.old).links k) (X.Exceptions.world x.old) }
+    requires { IfSome k (λ y. y < X.limit) }
+    ensures { X.world x.new ≡ with_links (cutting (X.world x.old).links k) (X.world x.old) }
 {
-    x.vouch();
     if let Some(k) = k {
         x.set_context(k, None);
     }

@@ -2,6 +2,7 @@ ghost use Rattle.std.specs.Prelude.{◌≡◌, ℕ, ◌<◌, ◌≤◌, IfSome};
 ghost use Rattle.exceptions.specs.Links.{Ringless, Within, linked, unlinked, tabled};
 
 // The links of N exceptions, in which there is no ring.
+// Kept: ghost fields, and no Model: hosts prove the law of their links from these fields, and a Model shows its value alone.
 #[derive(Drop)]
 pub struct LinkTable<const N: usize> {
     contexts: [Option<u16>; N],
@@ -19,11 +20,11 @@ impl<const N: usize> LinkTable<N> {
         }
     }
 
+    // An exception past the last has none.
     pub fn context(&self, e: u16) -> Option<u16>
-        requires { e < N }
         ensures { result ≡ tabled self.now.contexts e }
     {
-        self.contexts[e as usize]
+        self.contexts.get(e as usize).copied().flatten()
     }
 
     pub fn set_context(&mut self, e: u16, c: Option<u16>)

@@ -1,4 +1,5 @@
 // What an iterator gives when it is asked for its next value.
+// Kept: a stop is no error, and the Rust that was ported has it under this name.
 #[derive(Clone, Copy, Debug, PartialEq, Eq)]
 pub enum PyIterReturn {
     Return(u32),

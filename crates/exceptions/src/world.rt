@@ -7,6 +7,7 @@ pub trait Exceptions {
     const EXCEPTIONS: u16;
 
     // EXCEPTIONS, as a contract can name it.
+    // Kept: tried as a ghost member of the constant's own name; it gets no statement in an impl whose type has a lifetime, as the tape's.
     ghost limit: { ℕ };
 
     // The links, and the answers to come.
@@ -17,6 +18,7 @@ pub trait Exceptions {
         ensures { result ≡ limit };
 
     // The context of e.
+    // Kept: a bound at each call, and no type for an exception: every host and every caller would turn its numbers into it and back.
     fn context(&self, e: u16) -> Option<u16>
         requires { e < limit }
         ensures { result ≡ (world self.now).links e };
@@ -28,7 +30,6 @@ pub trait Exceptions {
         requires opens { Ringless (linked (world self.old).links e c) }
         ensures { world self.new ≡ relinking e c (world self.old) };
 
-    // Does nothing, and says what always holds: there is no ring, and no exception at EXCEPTIONS or above.
-    fn vouch(&self)
-        ensures { Lawful limit (world self.now) };
+    // There is no ring, and no exception at EXCEPTIONS or above.
+    ghost lawful: { (s : Self) → Lawful limit (world s) };
 }

@@ -1,10 +1,8 @@
 -- A frame by what it holds.
 use Rattle.std.specs.Prelude.{ℕ, ◌-◌, cond, List, [], ◌++◌, map, length, replicate, Some, None, Option, nat_lt, slice_index_or}
-use Rattle.frame.specs.Blocks.{standing}
-use Rattle.frame.specs.Stack.{values}
 use Rattle.frame.specs.declared.blocks.Block.{Block}
 use Rattle.frame.specs.declared.frames.Counts.{Counts}
-use Rattle.frame.specs.declared.frames.Frame.{Frame}
+use Rattle.frame.specs.declared.frames.Frame.TheInside.{Inside}
 use Rattle.frame.specs.declared.frames.Status.{Status}
 use Rattle.frame.specs.declared.frames.Status.TheVariants.{Ready}
 
@@ -17,12 +15,12 @@ pub record Held : Type 0 where
   pub status : Status
   pub counts : Counts
 
-abbrev pub held : Frame → Held
+abbrev pub held : Inside → Held
 held f = record {
   exceptions = f.exceptions;
-  stack = values f.stack;
+  stack = f.stack;
   locals = f.locals;
-  blocks = standing f.blocks;
+  blocks = f.blocks;
   index = f.index;
   status = f.status;
   counts = f.counts;

@@ -1,7 +1,7 @@
 -- What the instructions do to a frame in small: for each what it answers, and what it leaves.
 use Rattle.std.specs.Prelude.{ℕ, Bool, cond, ◌&&◌, List, [], ◌∷◌, length, Ok, Err, Result, nat_le, nat_lt}
 use Rattle.frame.specs.Frames.{Held}
-use Rattle.frame.specs.Tables.{lowest, rest}
+use Rattle.stacks.specs.Stack.{lowest, rest}
 use Rattle.frame.specs.declared.blocks.Block.{Block}
 use Rattle.frame.specs.declared.blocks.BlockType.{BlockType}
 use Rattle.frame.specs.declared.faults.FaultKind.{FaultKind}

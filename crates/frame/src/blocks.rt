@@ -1,7 +1,5 @@
 // The blocks of a frame: what to do, and what to restore, when control leaves a part of a script.
-ghost use Rattle.std.specs.Prelude.{◌≤◌};
-
-mod calls;
+use crate::stack::FixedStack;
 
 // Why blocks are being removed.
 #[derive(Clone, Copy, Debug, PartialEq, Eq)]
@@ -12,8 +10,9 @@ pub enum UnwindReason {
     Continue { target: u16 },
 }
 
-#[derive(Clone, Copy, Debug, PartialEq, Eq)]
+#[derive(Clone, Copy, Debug, Default, PartialEq, Eq)]
 pub enum BlockType {
+    #[default]
     Loop,
     TryExcept {
         handler: u16,
@@ -33,16 +32,11 @@ pub enum BlockType {
 }
 
 // A block, and the length of the stack when it was put up.
-#[derive(Clone, Copy, Debug, PartialEq, Eq)]
+#[derive(Clone, Copy, Debug, Default, PartialEq, Eq)]
 pub struct Block {
     pub typ: BlockType,
     pub level: usize,
 }
 
-// At most 32 blocks, in fixed memory.
-#[derive(Drop)]
-pub struct BlockTable {
-    items: [Block; 32],
-    len: usize,
-    ghost few: { len ≤ 32 },
-}
+// At most 32 blocks.
+pub type BlockTable = FixedStack<Block, 32>;

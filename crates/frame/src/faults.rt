@@ -4,29 +4,20 @@ ghost use Rattle.frame.specs.Faults.{fault_number};
 
 #[derive(Clone, Copy, Debug, PartialEq, Eq)]
 pub enum FaultKind {
-    PastTheEnd,
-    StackFull,
-    TooFewValues,
-    NoBlock,
-    WrongBlock,
-    NoLoop,
-    BelowLevel,
-    TooManyBlocks,
+    PastTheEnd = 21,
+    StackFull = 22,
+    TooFewValues = 23,
+    NoBlock = 24,
+    WrongBlock = 25,
+    NoLoop = 26,
+    BelowLevel = 27,
+    TooManyBlocks = 28,
 }
 
 impl FaultKind {
     pub fn number(self) -> u8
         ensures { result ≡ fault_number self }
     {
-        match self {
-            FaultKind::PastTheEnd => 21,
-            FaultKind::StackFull => 22,
-            FaultKind::TooFewValues => 23,
-            FaultKind::NoBlock => 24,
-            FaultKind::WrongBlock => 25,
-            FaultKind::NoLoop => 26,
-            FaultKind::BelowLevel => 27,
-            FaultKind::TooManyBlocks => 28,
-        }
+        self as u8
     }
 }

@@ -1,11 +1,4 @@
-// The value stack: at most 256 handles, in fixed memory.
-ghost use Rattle.std.specs.Prelude.{◌≤◌};
+// The value stack of a frame: at most 256 handles.
+pub use stacks::stack::{FixedStack, Full, TooFew};
 
-mod calls;
-
-#[derive(Drop)]
-pub struct Stack {
-    items: [u32; 256],
-    len: usize,
-    ghost few: { len ≤ 256 },
-}
+pub type Stack = FixedStack<u32, 256>;

@@ -1,9 +1,10 @@
 -- Charges count uses.
-use Rattle.std.proofs.Common.{◌≡◌, ℕ, zero, suc, ◌+◌, ◌%◌, ◌<◌, ◌≤◌, Bool, cond, ltb, List, [], ◌∷◌, length, get_or, replicate, Some, None, Ok, Option, sym, refl, ap, ◌∙◌, subst, ⊎_elim, zero-add, arith, length-set, get_or-set_other, get_or-set_same}
-use Rattle.std.proofs.lemmas.Bool.{cases_eq, eq-eqb, ne_eqb}
+use Rattle.std.proofs.Common.{◌≡◌, ℕ, ◌+◌, ◌%◌, ◌<◌, ◌≤◌, ltb, List, [], ◌∷◌, length, get_or, replicate, Some, None, Ok, Option, refl, ap, ◌∙◌, zero-add, arith, length-set, get_or-set_other, get_or-set_same}
+use Rattle.std.proofs.lemmas.Bool.{cases_eq}
 use Rattle.std.proofs.lemmas.Bool.Decides.{nat_tests}
+use Rattle.std.proofs.lemmas.Grind.{common_steps}
 use Rattle.exceptions.specs.Questions.{Question}
-use Rattle.hosts.specs.Rack.{charge_of, grown, used, used_by, recharged, rack_moves, uses_one, uses, call_reply, next_reply, rack_meaning, CountsUses}
+use Rattle.hosts.specs.Rack.{charge_of, grown, used_by, recharged, rack_moves, uses_one, uses, call_reply, next_reply, rack_meaning, CountsUses}
 
 -- eight charges of at most 3
 record Charged (s : List ℕ) : Type 0 where
@@ -35,11 +36,7 @@ step h s (Some d) u c =
     let a = get_or-set_same s (d % 8) (grown (charge_of s d)) 0 in-it in
     let b = get_or-set_other s (d % 8) (h % 8) (grown (charge_of s d)) 0 in
     let m = grown_mod (charge_of s h) u (c.low (h % 8)) in
-    let Goal : Bool → Type 0 = λ t. (charge_of (used s d) h + u) % 4 ≡ (charge_of s h + (cond t 1 0 + u)) % 4 in
-    ⊎_elim
-    (λ e. subst Goal (sym (eq-eqb (d % 8) (h % 8) e)) (ap (λ n. (n + u) % 4) (ap (λ i. get_or (used s d) i 0) (sym e) ∙ (a ∙ ap (λ i. grown (get_or s i 0)) e)) ∙ m))
-    (λ e. subst Goal (sym (ne_eqb (d % 8) (h % 8) e)) (ap (λ n. (n + u) % 4) (b (λ z. e (sym z))) ∙ omega arith))
-    (cases_eq (d % 8) (h % 8))
+    grind (arith, nat_tests)
 
 counted : (h : ℕ) (s : List ℕ) (earlier : List Question) → Charged s → charge_of (rack_moves s earlier) h ≡ (charge_of s h + uses h earlier) % 4
 unfolding uses
@@ -48,9 +45,7 @@ counted h s (q ∷ earlier) c =
     counted h (recharged s (used_by q)) earlier (recharged_charged s (used_by q) c) ∙ step h s (used_by q) (uses h earlier) c
 
 zero_at : (n k : ℕ) → ◌≡◌ {A = ℕ} (get_or (replicate n 0) k 0) 0
-zero_at zero k = refl
-zero_at (suc n) zero = refl
-zero_at (suc n) (suc k) = zero_at n k
+zero_at n k = grind (arith, common_steps)
 
 counts_used : (h : ℕ) (earlier : List Question) → charge_of (rack_moves (replicate 8 0) earlier) h ≡ uses h earlier % 4
 counts_used h earlier =

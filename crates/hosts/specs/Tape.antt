@@ -3,6 +3,8 @@ use Rattle.std.specs.Prelude.{◌≡◌, ℕ, ◌+◌, ◌*◌, ◌%◌, Bool, t
 use Rattle.exceptions.specs.declared.questions.PyIterReturn.{PyIterReturn}
 use Rattle.exceptions.specs.declared.questions.PyIterReturn.TheVariants.{Return, StopIteration}
 use Rattle.hosts.specs.declared.tape.Entry.{Entry}
+use Rattle.hosts.specs.declared.tape.Kind.{Kind}
+use Rattle.hosts.specs.declared.tape.Kind.TheVariants.{Number, Raise, Stop}
 use Rattle.exceptions.specs.Questions.{
   Question,
   Signal,
@@ -23,33 +25,43 @@ use Rattle.exceptions.specs.Questions.{
 use Rattle.exceptions.specs.World.{Meaning, World}
 use Rattle.exceptions.specs.Links.{tabled, unlinked}
 
--- the entry at the front of the tape: kind 0 and number 0 where under five bytes are left
+-- the kind of a byte: 1 raises, 2 stops, any other is a number
+abbrev pub kind_of : ℕ → Kind
+kind_of b = cond (b == 1) Raise (cond (b == 2) Stop Number)
+
+-- the entry at the front of the tape: the number 0 where under five bytes are left
 unfoldable pub entry_of : List ℕ → Entry
 entry_of s =
     cond (nat_lt (length s) 5)
-    (record { kind = 0; number = 0 })
-    (record { kind = slice_index s 0; number = slice_index s 1 + slice_index s 2 * 256 + slice_index s 3 * 65536 + slice_index s 4 * 16777216 })
+    (record { kind = Number; number = 0 })
+    (record { kind = kind_of (slice_index s 0); number = slice_index s 1 + slice_index s 2 * 256 + slice_index s 3 * 65536 + slice_index s 4 * 16777216 })
 
 -- the tape after it: under five bytes are never read
 unfoldable pub entry_left : List ℕ → List ℕ
 entry_left s = cond (nat_lt (length s) 5) s (drop 5 s)
 
--- kind 1 raises the number, mod 64 as an exception; any other kind is its number
+-- what a kind means, of three
+abbrev pub by_kind : {A : Type 0} → A → A → A → Kind → A
+by_kind raise stop number Raise = raise
+by_kind raise stop number Stop = stop
+by_kind raise stop number Number = number
+
+-- a raise is of the number, mod 64 as an exception; any other kind is its number
 abbrev pub raising : Entry → Result ℕ ℕ
-raising x = cond (x.kind == 1) (Err (x.number % 64)) (Ok x.number)
+raising x = by_kind (Err (x.number % 64)) (Ok x.number) (Ok x.number) x.kind
 
 -- what is given of the number, unless the entry raises
 abbrev pub giving : {A : Type 0} → (ℕ → A) → Result ℕ ℕ → Result A ℕ
 giving given (Ok n) = Ok (given n)
 giving given (Err e) = Err e
 
--- kind 2 stops an iterator with the number as its value
+-- a stop stops an iterator with the number as its value
 abbrev pub iterating : Entry → ℕ → PyIterReturn
-iterating x n = cond (x.kind == 2) (StopIteration (Some n)) (Return n)
+iterating x n = by_kind (Return n) (StopIteration (Some n)) (Return n) x.kind
 
--- kind 2 means that there is no method
+-- a stop means that there is no method
 abbrev pub entering : Entry → ℕ → Option ℕ
-entering x n = cond (x.kind == 2) None (Some n)
+entering x n = by_kind (Some n) None (Some n) x.kind
 
 -- what an entry answers: exceptions are taken mod 64, odd is yes, and split repeats its number
 abbrev pub entry_reply : Entry → (q : Question) → AnswerTo q

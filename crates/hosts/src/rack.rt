@@ -1,4 +1,4 @@
-ghost use Rattle.std.specs.Prelude.{◌≡◌, ℕ, ◌≤◌, Some, None, slice_index};
+ghost use Rattle.std.specs.Prelude.{◌≡◌, ℕ, ◌≤◌, ◌%◌, Some, None, slice_index};
 ghost use Rattle.hosts.specs.Rack.{rack_meaning, rack_world, new_rack, charge_of, used, gives, CountsUses};
 
 use crate::host::Host;
@@ -14,6 +14,8 @@ pub struct Rack {
     ghost low: { ((k : ℕ) → slice_index charges k ≤ 3) },
 }
 
+// Kept: the tape has these words with 64 in place of 8. One impl over every host that lends its table would leave the table's size
+// open, and want a clause on what comes back from the loan: longer than the two calls.
 impl Exceptions for Rack {
     const EXCEPTIONS: u16 = 8;
 
@@ -33,7 +35,9 @@ impl Exceptions for Rack {
         self.links.set_context(e, c);
     }
 
-    fn vouch(&self) {}
+    ghost use Rattle.std.proofs.Common.{rules};
+
+    ghost lawful = { Prim.search rules };
 }
 
 impl Host for Rack {
@@ -50,7 +54,7 @@ impl Host for Rack {
     }
 
     fn truth(&mut self, v: u32) -> Result<bool, u16> {
-        Ok(self.charges[(v % 8) as usize] > 0)
+        Ok(self.charges[device_of(v) as usize] > 0)
     }
 
     fn iterate(&mut self, v: u32) -> Result<u32, u16> {
@@ -58,17 +62,14 @@ impl Host for Rack {
     }
 
     fn next(&mut self, v: u32) -> Result<PyIterReturn, u16> {
-        match self.draw(v) {
-            Some(charge) => Ok(PyIterReturn::Return(charge)),
-            None => Ok(PyIterReturn::StopIteration(None)),
-        }
+        Ok(
+            self.draw(v)
+                .map_or(PyIterReturn::StopIteration(None), PyIterReturn::Return),
+        )
     }
 
     fn call(&mut self, f: u32, _args: &[u32]) -> Result<u32, u16> {
-        match self.draw(f) {
-            Some(charge) => Ok(charge),
-            None => Err((f % 8) as u16),
-        }
+        self.draw(f).ok_or(device_of(f))
     }
 
     fn enter_of(&mut self, v: u32) -> Result<Option<u32>, u16> {
@@ -80,15 +81,15 @@ impl Host for Rack {
     }
 
     fn instantiate(&mut self, v: u32) -> Result<u16, u16> {
-        Ok((v % 8) as u16)
+        Ok(device_of(v))
     }
 
     fn value_of(&mut self, e: u16) -> u32 {
-        e as u32
+        u32::from(e)
     }
 
     fn split(&mut self, e: u16) -> [u32; 3] {
-        [e as u32; 3]
+        [u32::from(e); 3]
     }
 
     fn send(&mut self, v: u32, _w: u32) -> Result<PyIterReturn, u16> {
@@ -104,6 +105,7 @@ impl Host for Rack {
 
 impl Rack {
     // No device has a charge, and no exception a context.
+    #[tactic(auto, using(crate::proofs::Charges::new_counts))]
     pub fn new() -> Self
         ensures new { rack_world result.charges result.links.contexts ≡ new_rack }
         ensures counts { CountsUses (rack_meaning result.charges) }
@@ -120,13 +122,19 @@ impl Rack {
         ensures charges { self.new.charges ≡ used self.old.charges h }
         ensures links { self.new.links ≡ self.old.links }
     {
-        let device = (h % 8) as usize;
-        let charge = self.charges[device];
-        if charge == 3 {
-            self.charges[device] = 0;
+        let charge = &mut self.charges[device_of(h) as usize];
+        if *charge == 3 {
+            *charge = 0;
             return None;
         }
-        self.charges[device] = charge + 1;
-        Some(charge as u32 + 1)
+        *charge += 1;
+        Some(u32::from(*charge))
     }
+}
+
+// The device that a handle names, and the exception.
+fn device_of(h: u32) -> u16
+    ensures { result ≡ h % 8 }
+{
+    (h % 8) as u16
 }

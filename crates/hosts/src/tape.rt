@@ -1,24 +1,43 @@
-ghost use Rattle.std.specs.Prelude.{◌≡◌, drop};
-ghost use Rattle.hosts.specs.Tape.{tape_meaning, tape_world, new_tape, entry_of, entry_left, raising, InOrder};
+ghost use Rattle.std.specs.Prelude.{◌≡◌, ◌%◌};
+ghost use Rattle.hosts.specs.Tape.{tape_meaning, tape_world, new_tape, kind_of, entry_of, entry_left, raising, InOrder};
 
 use crate::host::Host;
 use exceptions::links::LinkTable;
 use exceptions::questions::{FailKind, PyIterReturn};
 use exceptions::world::Exceptions;
 
-// Bytes that are lent, read from the cursor on.
+// Of the bytes that are lent, those still to be read.
 #[derive(Drop)]
 pub struct Tape<'a> {
-    bytes: &'a [u8],
-    at: usize,
+    rest: &'a [u8],
     links: LinkTable<64>,
 }
 
 // What a question takes off the tape.
 #[derive(Clone, Copy, Debug, PartialEq, Eq)]
 struct Entry {
-    kind: u8,
+    kind: Kind,
     number: u32,
+}
+
+// What the number of an entry is, in the questions that tell kinds apart.
+#[derive(Clone, Copy, Debug, PartialEq, Eq)]
+enum Kind {
+    Number,
+    Raise,
+    Stop,
+}
+
+impl From<u8> for Kind {
+    ghost from_gives = { λ b k. k ≡ kind_of b };
+
+    fn from(b: u8) -> Self {
+        match b {
+            1 => Kind::Raise,
+            2 => Kind::Stop,
+            _ => Kind::Number,
+        }
+    }
 }
 
 impl<'a> Exceptions for Tape<'a> {
@@ -26,7 +45,7 @@ impl<'a> Exceptions for Tape<'a> {
 
     ghost limit = { 64 };
 
-    ghost world = { λ s. tape_world (drop s.at s.bytes.now) s.links.contexts };
+    ghost world = { λ s. tape_world s.rest.now s.links.contexts };
 
     fn how_many() -> u16
         ensures { result ≡ 64 }
@@ -42,7 +61,9 @@ impl<'a> Exceptions for Tape<'a> {
         self.links.set_context(e, c);
     }
 
-    fn vouch(&self) {}
+    ghost use Rattle.std.proofs.Common.{rules};
+
+    ghost lawful = { Prim.search rules };
 }
 
 impl<'a> Host for Tape<'a> {
@@ -74,7 +95,7 @@ impl<'a> Host for Tape<'a> {
         let entry = self.take_entry();
         let number = entry.unless_raised()?;
         match entry.kind {
-            2 => Ok(PyIterReturn::StopIteration(Some(number))),
+            Kind::Stop => Ok(PyIterReturn::StopIteration(Some(number))),
             _ => Ok(PyIterReturn::Return(number)),
         }
     }
@@ -87,7 +108,7 @@ impl<'a> Host for Tape<'a> {
         let entry = self.take_entry();
         let number = entry.unless_raised()?;
         match entry.kind {
-            2 => Ok(None),
+            Kind::Stop => Ok(None),
             _ => Ok(Some(number)),
         }
     }
@@ -97,8 +118,9 @@ impl<'a> Host for Tape<'a> {
     }
 
     fn instantiate(&mut self, _v: u32) -> Result<u16, u16> {
-        let number = self.take_entry().unless_raised()?;
-        Ok((number % 64) as u16)
+        let entry = self.take_entry();
+        entry.unless_raised()?;
+        Ok(entry.exception())
     }
 
     fn value_of(&mut self, _e: u16) -> u32 {
@@ -114,7 +136,7 @@ impl<'a> Host for Tape<'a> {
     }
 
     fn fail(&mut self, _kind: FailKind, _a: u32) -> u16 {
-        (self.take_entry().number % 64) as u16
+        self.take_entry().exception()
     }
 
     fn trace(&mut self, _e: u16, _index: u16, _row: u32) {}
@@ -122,32 +144,35 @@ impl<'a> Host for Tape<'a> {
 
 impl<'a> Tape<'a> {
     // The whole tape is still to be read, and no exception has a context.
+    #[tactic(auto, using(crate::proofs::Entries::in_order))]
     pub fn new(bytes: &'a [u8]) -> Tape<'a>
-        ensures new { tape_world (drop result.at result.bytes.now) result.links.contexts ≡ new_tape bytes.now }
-        ensures order { InOrder bytes.now (tape_meaning (drop result.at result.bytes.now)) }
+        ensures new { tape_world result.rest.now result.links.contexts ≡ new_tape bytes.now }
+        ensures order { InOrder bytes.now (tape_meaning result.rest.now) }
     {
         Tape {
-            bytes,
-            at: 0,
+            rest: bytes,
             links: LinkTable::new(),
         }
     }
 
     // Takes five bytes, or nothing where fewer are left.
+    // Kept: the number 0, and no Option: a tape that has ended answers it to every question, so each would turn the Option into it.
+    #[tactic(auto, unfolding(crate::specs::Tape::entry_of, crate::specs::Tape::entry_left))]
     fn take_entry(&mut self) -> Entry
-        ensures told { result ≡ entry_of (drop self.old.at self.old.bytes.now) }
-        ensures tape { drop self.new.at self.new.bytes.now ≡ entry_left (drop self.old.at self.old.bytes.now) }
+        ensures told { result ≡ entry_of self.old.rest.now }
+        ensures tape { self.new.rest.now ≡ entry_left self.old.rest.now }
         ensures links { self.new.links ≡ self.old.links }
     {
-        let at = self.at;
-        if self.bytes.len().saturating_sub(at) < 5 {
-            return Entry { kind: 0, number: 0 };
-        }
-        self.at = at + 5;
-        let b = self.bytes;
+        let [kind, a, b, c, d, rest @ ..] = self.rest else {
+            return Entry {
+                kind: Kind::Number,
+                number: 0,
+            };
+        };
+        self.rest = rest;
         Entry {
-            kind: b[at],
-            number: u32::from_le_bytes([b[at + 1], b[at + 2], b[at + 3], b[at + 4]]),
+            kind: Kind::from(*kind),
+            number: u32::from_le_bytes([*a, *b, *c, *d]),
         }
     }
 }
@@ -158,8 +183,15 @@ impl Entry {
         ensures { result ≡ raising self }
     {
         match self.kind {
-            1 => Err((self.number % 64) as u16),
-            _ => Ok(self.number),
+            Kind::Raise => Err(self.exception()),
+            Kind::Number | Kind::Stop => Ok(self.number),
         }
+    }
+
+    // The number as an exception.
+    fn exception(self) -> u16
+        ensures { result ≡ self.number % 64 }
+    {
+        (self.number % 64) as u16
     }
 }

@@ -1,15 +1,14 @@
-use Rattle.std.proofs.Common.{◌≡◌, ℕ, length, arith, rules}
-use Rattle.std.proofs.lemmas.List.{take_all}
+use Rattle.std.proofs.Common.{rules, ◌∙◌, sym, arith}
+use Rattle.std.proofs.lemmas.Grind.{common_steps}
+use Rattle.std.proofs.lemmas.List.{same_lists}
+use Rattle.std.specs.List.{slice_get}
 use Rattle.frame.specs.Frames.{filled}
-use Rattle.frame.proofs.Filling.{filling_more}
+use Rattle.frame.proofs.Filling.{filled_at, made_at}
 use Rattle.frame.proofs.frames.fill.Goals as goal
-
-pub loop-i-preserved : goal.loop-i-preserved
-loop-i-preserved c = let m = filling_more c.args.arguments.now c.loop-i.i 64 (omega arith) (omega arith) in search rules
 
 pub returns : goal.returns
 unfolding filled
 returns c =
-    let e : c.loop-i.i ≡ length c.args.arguments.now = omega arith in
-    let t = take_all {A = ℕ} c.loop-i.i c.args.arguments.now (omega arith) in
-    search rules
+    let made = c.from_fn.ensures.items in
+    let xs = c.args.arguments.now in
+    same_lists _ _ (grind (arith, common_steps)) (λ k d h. made_at made (slice_get xs) (λ i y f' s. search rules) k d (omega (arith, made.long)) ∙ sym (filled_at xs 64 k d c.requires (omega (arith, made.long))))
