@@ -1,2 +1,2 @@
+mod Columns
 mod Listing
-mod Made

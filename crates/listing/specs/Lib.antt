@@ -1,4 +1,2 @@
 pub mod Columns
-pub mod Explained
 pub mod Lines
-pub mod Names

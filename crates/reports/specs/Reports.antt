@@ -3,12 +3,12 @@ use Rattle.std.specs.Prelude.{ℕ, List, Ok, Err, string_bytes, Result}
 use Rattle.table_check.specs.Checking.{checking}
 use Rattle.table_check.specs.declared.broken.Broken.{Broken}
 use Rattle.check_words.specs.Words as words
-use Rattle.listing.specs.Explained as explained
 use Rattle.listing.specs.Lines.{listing_text}
 use Rattle.reports.specs.declared.reports.Report.{Report}
 use Rattle.reports.specs.declared.reports.Report.TheVariants as report
 use Rattle.table.specs.Loading.{loading}
 use Rattle.table.specs.Parts.{Parts}
+use Rattle.table.specs.Words as refusals
 use Rattle.table.specs.declared.refusals.Refusal.{Refusal}
 
 -- the texts of a report
@@ -33,7 +33,7 @@ judging t = judged t (checking t)
 -- bytes that load refuses are told by their refusal
 abbrev pub reported : Result Parts Refusal → Told
 reported (Ok t) = judging t
-reported (Err e) = refused (explained.explanation e)
+reported (Err e) = refused (refusals.explanation e)
 
 abbrev pub reporting : List ℕ → Told
 reporting b = reported (loading b)

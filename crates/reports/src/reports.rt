@@ -3,7 +3,6 @@ ghost use Rattle.reports.specs.Reports.{judging, reporting, told};
 ghost use Rattle.table.specs.Tables.{parts};
 
 use check_words::words;
-use listing::explained;
 use listing::lines::list;
 use std::alloc::{AllocError, Global};
 use table::loading::load;
@@ -39,7 +38,7 @@ pub fn report_on(heap: Global, bytes: &[u8]) -> Result<Report, AllocError>
     match load(bytes) {
         Ok(table) => judge(heap, &table),
         Err(refusal) => {
-            let words = explained::explain(heap, refusal)?;
+            let words = refusal.to_string(heap)?;
             Ok(Report::Refused { words })
         }
     }

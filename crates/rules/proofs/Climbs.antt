@@ -4,7 +4,8 @@ use native.Mathlib.Numerals.{unary_clauses}
 use Rattle.rules.specs.Climbing.{arriving, leaving, nearest, within}
 use Rattle.rules.specs.Reading.{kind_of, node_for, parent_of, same_kind}
 use Rattle.table.specs.Parts.{Parts}
-use Rattle.table.specs.declared.records.NodeKind.TheVariants.{Loop}
+use Rattle.table.specs.Reading.{node_at}
+use Rattle.table.specs.declared.records.NodeKind.TheVariants.{Loop, Unknown}
 
 pub within_none : (t : Parts) (n k : ℕ) → n ≡ 0 → within t n k ≡ eqb k 0
 unfolding within
@@ -36,3 +37,18 @@ pub arriving_step : (t : Parts) (n k : ℕ) (z : ℤ) → 0 < n →
 unfolding arriving
 arriving_step t zero k z h = absurd (omega arith)
 arriving_step t (suc n) k z h = simp unary_clauses
+
+the_kinds_differ : (b : ℕ) → Unknown b ≡ Loop → ⊥
+the_kinds_differ b h = let z : ◌≡◌ {A = ℕ} 0 1 = cc in omega arith
+
+-- node 0 is no Loop
+pub no_loop_at_0 : (t : Parts) (k : ℕ) → kind_of t k ≡ Loop → 0 < k
+unfolding node_for node_at
+no_loop_at_0 t zero h = absurd (the_kinds_differ 0 h)
+no_loop_at_0 t (suc k) h = omega arith
+
+-- each step of a climb to the nearest Loop
+pub ruleset loop_steps = (nearest_none, nearest_step, arriving_none, arriving_step, no_loop_at_0)
+
+-- each step of a climb to the bottom
+pub ruleset bottom_steps = (within_none, within_step)

@@ -1,7 +1,8 @@
 -- Where control comes to: the tests of depth and node, each with the name that it is refused by.
 use Rattle.std.specs.Prelude.{ℕ, ◌+◌, Bool, false, ℤ, pos, negsuc, Result, ◌==◌, nat_lt}
-use Rattle.rules.specs.Reading.{depth_of, node_for, node_of, same_kind}
-use Rattle.rules.specs.Rule.{◌then◌, demand}
+use Rattle.rules.specs.Reading.{depth_of, node_of, standing}
+use Rattle.table.specs.Demands.{◌then◌, demand}
+use Rattle.rules.specs.Subjects.{has_end, has_handler, has_kind, has_level, has_parent}
 use Rattle.rules.specs.declared.rule.Rule.{Rule}
 use Rattle.rules.specs.declared.rule.Rule.TheVariants as rule
 use Rattle.rules.specs.declared.rule.Way.{Way}
@@ -32,24 +33,28 @@ arrives t w to z k =
 
 -- the node in which the next instruction stands
 abbrev pub child : Parts → ℕ → Node
-child t i = node_for t (node_of t (i + 1))
+child t i = standing t (i + 1)
+
+-- an instruction is reached from the one before with this depth, in a child node of this kind, put up where the shape is s
+unfoldable pub opens_at : Parts → ℕ → Shape → NodeKind → ℤ → Result Unit Rule
+opens_at t to s kind z =
+    comes t way.Next to z then
+    has_kind whose.Child (standing t to) kind then
+    has_parent whose.Child (standing t to) s.node then
+    has_level whose.Child (standing t to) s.depth
 
 -- the next instruction is reached with this depth, in a child node of this kind whose level is the depth here
-unfoldable pub opens : Parts → ℕ → Shape → NodeKind → ℤ → Result Unit Rule
-opens t i s kind z =
-    comes t way.Next (i + 1) z then
-    demand (same_kind (child t i).kind kind) (rule.Kind whose.Child kind (child t i).kind) then
-    demand ((child t i).parent == s.node) (rule.Parent whose.Child s.node (child t i).parent) then
-    demand ((child t i).level == s.depth) (rule.Level whose.Child s.depth (child t i).level)
+abbrev pub opens : Parts → ℕ → Shape → NodeKind → ℤ → Result Unit Rule
+opens t i = opens_at t (i + 1)
 
 abbrev pub child_handler : Parts → ℕ → ℕ → Result Unit Rule
-child_handler t i handler = demand ((child t i).handler == handler) (rule.Handler whose.Child handler (child t i).handler)
+child_handler t i = has_handler whose.Child (child t i)
 
 abbrev pub child_end : Parts → ℕ → ℕ → Result Unit Rule
-child_end t i end = demand ((child t i).end == end) (rule.End whose.Child end (child t i).end)
+child_end t i = has_end whose.Child (child t i)
 
 abbrev pub own_kind : Node → NodeKind → Result Unit Rule
-own_kind own kind = demand (same_kind own.kind kind) (rule.Kind whose.Own kind own.kind)
+own_kind = has_kind whose.Own
 
 abbrev pub own_end : Node → ℕ → Result Unit Rule
-own_end own end = demand (own.end == end) (rule.End whose.Own end own.end)
+own_end = has_end whose.Own

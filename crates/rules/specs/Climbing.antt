@@ -1,5 +1,5 @@
 -- From a node to its parent, and so on to the bottom, over a number of nodes.
-use Rattle.std.specs.Prelude.{ℕ, zero, suc, Bool, true, cond, ℤ, pos, ◌-ℤ◌, ◌==◌}
+use Rattle.std.specs.Prelude.{ℕ, zero, suc, Bool, true, cond, ℤ, pos, ◌-ℤ◌, Some, None, Option, ◌==◌}
 use Rattle.rules.specs.Reading.{kind_of, node_for, parent_of, same_kind}
 use Rattle.table.specs.Parts.{Parts}
 use Rattle.table.specs.declared.records.Node.{Node}
@@ -15,6 +15,14 @@ within t (suc n) k = cond (k == 0) true (within t n (parent_of t k))
 unfoldable pub nearest : Parts → ℕ → ℕ → ℕ
 nearest t zero k = 0
 nearest t (suc n) k = cond (same_kind (kind_of t k) Loop) k (nearest t n (parent_of t k))
+
+-- the number of a block; 0 is none
+abbrev pub numbered : ℕ → Option ℕ
+numbered k = cond (k == 0) None (Some k)
+
+-- the nearest Loop, if there is one among 32 nodes
+abbrev pub nearest_loop : Parts → ℕ → Option ℕ
+nearest_loop t k = numbered (nearest t 32 k)
 
 -- what a block's removal leaves: the level, less the end of a Finally
 abbrev pub left_at : NodeKind → ℕ → ℕ → ℤ

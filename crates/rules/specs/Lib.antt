@@ -3,5 +3,6 @@ pub mod Climbing
 pub mod Effects
 pub mod NodeRules
 pub mod Reading
-pub mod Rule
 pub mod ShapeRules
+pub mod Subjects
+pub mod Words

@@ -1,5 +1,5 @@
 -- Nodes and shapes by number: node 0 stands for no block, and what the table lacks is read as zeros.
-use Rattle.std.specs.Prelude.{ℕ, ◌+◌, Bool, Some, None, Option, ◌==◌}
+use Rattle.std.specs.Prelude.{ℕ, ◌+◌, Bool, ◌==◌, unwrap_or}
 use Rattle.table.specs.Parts.{Parts}
 use Rattle.table.specs.Reading.{node_at, shape_at}
 use Rattle.table.specs.declared.records.Node.{Node}
@@ -10,19 +10,14 @@ use Rattle.table.specs.declared.records.Shape.{Shape}
 abbrev pub no_block : Node
 no_block = record { kind = Unknown 0; end = 0; parent = 0; level = 0; handler = 0 }
 
-abbrev pub node_or : Option Node → Node
-node_or (Some n) = n
-node_or None = no_block
-
-abbrev pub shape_or : Option Shape → Shape
-shape_or (Some s) = s
-shape_or None = record { depth = 0; node = 0 }
+abbrev pub empty_shape : Shape
+empty_shape = record { depth = 0; node = 0 }
 
 unfoldable pub node_for : Parts → ℕ → Node
-node_for t k = node_or (node_at t k)
+node_for t k = unwrap_or (node_at t k) no_block
 
 unfoldable pub shape_for : Parts → ℕ → Shape
-shape_for t i = shape_or (shape_at t i)
+shape_for t i = unwrap_or (shape_at t i) empty_shape
 
 -- a node's parts
 abbrev pub kind_of : Parts → ℕ → NodeKind
@@ -46,6 +41,10 @@ depth_of t i = (shape_for t i).depth
 
 abbrev pub node_of : Parts → ℕ → ℕ
 node_of t i = (shape_for t i).node
+
+-- the node that stands before instruction i
+abbrev pub standing : Parts → ℕ → Node
+standing t i = node_for t (node_of t i)
 
 -- a number for each kind, by which two kinds are compared
 abbrev pub kind_number : NodeKind → ℕ

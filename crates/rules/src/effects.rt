@@ -51,6 +51,7 @@ pub fn gives(op: Instruction) -> u32
 }
 
 // The net change of depth: from -255 to +1.
+#[tactic(auto, unfolding(crate::specs::Effects::effect))]
 pub fn effect(op: Instruction) -> i32
     ensures value { result ≡ effect op }
     ensures low_bound { negsuc 65535 ≤ℤ result }
@@ -60,6 +61,7 @@ pub fn effect(op: Instruction) -> i32
 }
 
 // The depth with which the next instruction is reached.
+#[tactic(auto, unfolding(crate::specs::Effects::depth_after))]
 pub fn depth_after(depth: u16, op: Instruction) -> i32
     ensures { result ≡ depth_after depth op }
 {

@@ -10,3 +10,5 @@ pub mod climbing;
 pub mod effects;
 pub mod reading;
 pub mod rule;
+pub mod subjects;
+mod words;

@@ -1,7 +1,4 @@
 // What the rules demand: a case for each, with what was expected and found where it is broken.
-ghost use Rattle.std.specs.Prelude.{◌≡◌};
-ghost use Rattle.rules.specs.Rule.{demand};
-
 use table::records::NodeKind;
 
 // How control comes to an instruction: as the frame's first, from the one before, or by a jump.
@@ -148,11 +145,4 @@ pub enum Rule {
     },
     // a Loop stands, for a break or a continue
     LoopStands,
-}
-
-// The rule is named where what it demands does not hold.
-pub fn demand(holds: bool, rule: Rule) -> Result<(), Rule>
-    ensures { result ≡ demand holds rule }
-{
-    if holds { Ok(()) } else { Err(rule) }
 }

@@ -1,9 +1,9 @@
 -- The tests of load, taken together, say just what a lawful table is.
-use Rattle.std.proofs.Common.{◌≡◌, ℕ, zero, suc, ◌+◌, ◌*◌, ◌/◌, ◌<◌, ◌≤◌, Bool, true, false, cond, List, length, is_some, Some, None, Ok, Err, Option, Result, sym, refl, ap, subst, ⊎_elim, mul-le-mul_left, arith}
-use native.Mathlib.Nat.{div-add-mod, le_of_mul-le-mul_left, mul-mod_right}
+use Rattle.std.proofs.Common.{◌≡◌, ℕ, zero, suc, ◌+◌, ◌<◌, ◌≤◌, Bool, true, false, cond, List, length, is_some, Some, None, Ok, Err, Option, Result, sym, refl, ap, subst, ⊎_elim, arith}
+use native.Mathlib.Nat.{div-add-mod, mul-div_cancel_left, mul-mod_right}
 use Rattle.std.proofs.lemmas.Bool.{cases_eq}
 use Rattle.std.proofs.lemmas.Bool.Decides.{nat_tests}
-use Rattle.table.specs.Header.{◌then◌, counted, matched, measured, numbered, placing, sized}
+use Rattle.table.specs.Header.{counted, matched, measured, numbered, placing, sized}
 use Rattle.table.specs.Instructions.{Decoded, decoding}
 use Rattle.table.specs.Lawful.{Blamed, Encoded, Headed, InOrder, Lawful, Loaded, Ordered, Placed, Sized, Whole, spans}
 use Rattle.table.specs.Layout.{layout_of}
@@ -11,12 +11,14 @@ use Rattle.table.specs.Loading.{decodable, loading}
 use Rattle.table.specs.Parts.{Parts, parts_of}
 use Rattle.table.specs.Refusals.{number_of}
 use Rattle.table.specs.Reading.{instruction_count, limits_of, word_at}
+use Rattle.table.specs.Demands.{◌then◌}
 use Rattle.table.specs.declared.instructions.Instruction.{Instruction as Op}
 use Rattle.table.specs.declared.instructions.Limits.{Limits}
 use Rattle.table.specs.declared.instructions.Word.{Word}
 use Rattle.table.specs.declared.layout.Layout.{Layout}
 use Rattle.table.specs.declared.layout.Span.{Span}
 use Rattle.table.specs.declared.refusals.Part.{Part}
+use Rattle.table.specs.declared.refusals.Part.TheVariants.{Instructions, Shapes, Nodes, Constants, Rows}
 use Rattle.table.specs.declared.refusals.Refusal.{Refusal}
 use Rattle.table.specs.declared.refusals.Refusal.TheVariants.{Size, Begins, Ends, Number, Records, Uneven, Instruction}
 use Rattle.table.proofs.Decoded.{decoded}
@@ -31,43 +33,14 @@ unfolding placing
 places_pass bytes l h = grind (arith, nat_tests)
 
 -- a part's records
-pub counted_says : (part : Part) (size least most : ℕ) (s : Span) → 0 < size → counted part size least most s ≡ Ok tt → Whole size least most s.length
-counted_says part size least most s p h =
-    let d = div-add-mod s.length size in
-    let e : s.length ≡ size * (s.length / size) = grind (arith, nat_tests) in
-    let low : size * least ≤ s.length = grind (arith, nat_tests) in
-    let high : s.length ≤ size * most = grind (arith, nat_tests) in
-    (s.length / size, e, le_of_mul-le-mul_left {k = size} (omega arith) p, le_of_mul-le-mul_left {k = size} (omega arith) p)
+pub counted_says : (part : Part) (size least most : ℕ) (s : Span) → counted part size least most s ≡ Ok tt → Whole size least most s.length
+counted_says part size least most s h = let d = div-add-mod s.length size in grind (arith, nat_tests)
 
-pub counted_pass : (part : Part) (size least most : ℕ) (s : Span) → Whole size least most s.length → counted part size least most s ≡ Ok tt
-counted_pass part size least most s h =
+pub counted_pass : (part : Part) (size least most : ℕ) (s : Span) → 0 < size → Whole size least most s.length → counted part size least most s ≡ Ok tt
+counted_pass part size least most s p h =
     let r = mul-mod_right size h.0 in
-    let low = mul-le-mul_left size h.2 in
-    let high = mul-le-mul_left size h.3 in
+    let q = mul-div_cancel_left h.0 p in
     rw h.1 (grind (arith, nat_tests))
-
--- the header's numbers
-record Numbers (l : Layout) : Type 0 where
-  pub maximum : (1 ≤ l.maximum) × (l.maximum ≤ 256)
-  pub locals : l.locals ≤ 64
-  pub zero : l.zero ≡ 0
-  pub pairs : l.pairs ≡ 5
-
-numbered_says : (l : Layout) → numbered l ≡ Ok tt → Numbers l
-unfolding numbered
-numbered_says l h = grind (arith, nat_tests)
-
-numbered_pass : (l : Layout) → Numbers l → numbered l ≡ Ok tt
-unfolding numbered
-numbered_pass l h = grind (arith, nat_tests)
-
--- the parts' lengths
-record Lengths (l : Layout) : Type 0 where
-  pub instructions : Whole 4 1 4096 l.instructions.length
-  pub shapes : l.shapes.length ≡ l.instructions.length
-  pub nodes : Whole 8 0 1024 l.nodes.length
-  pub constants : Whole 4 0 1024 l.constants.length
-  pub rows : l.rows.length ≡ l.instructions.length
 
 matched_says : (part : Part) (expected : ℕ) (s : Span) → matched part expected s ≡ Ok tt → s.length ≡ expected
 matched_says part expected s h = grind (arith, nat_tests)
@@ -75,32 +48,39 @@ matched_says part expected s h = grind (arith, nat_tests)
 matched_pass : (part : Part) (expected : ℕ) (s : Span) → s.length ≡ expected → matched part expected s ≡ Ok tt
 matched_pass part expected s h = grind (arith, nat_tests)
 
-measured_says : (l : Layout) → measured l ≡ Ok tt → Lengths l
-unfolding measured
-measured_says l h =
-    let a = then_ok _ _ tt h in
+-- the header
+header_says : (l : Layout) → numbered l ≡ Ok tt → measured l ≡ Ok tt → Headed l
+unfolding numbered measured
+header_says l h k =
+    let a = then_ok _ _ tt k in
     let b = then_ok _ _ tt a.1 in
     let c = then_ok _ _ tt b.1 in
     let d = then_ok _ _ tt c.1 in
     record {
-      instructions = counted_says _ 4 1 4096 l.instructions (omega arith) a.0;
+      maximum = grind (arith, nat_tests);
+      locals = grind (arith, nat_tests);
+      zero = grind (arith, nat_tests);
+      pairs = grind (arith, nat_tests);
+      instructions = counted_says _ 4 1 4096 l.instructions a.0;
       shapes = matched_says _ _ l.shapes b.0;
-      nodes = counted_says _ 8 0 1024 l.nodes (omega arith) c.0;
-      constants = counted_says _ 4 0 1024 l.constants (omega arith) d.0;
+      nodes = counted_says _ 8 0 1024 l.nodes c.0;
+      constants = counted_says _ 4 0 1024 l.constants d.0;
       rows = matched_says _ _ l.rows d.1;
     }
 
-then_pass : {A : Type 0} (r : Result Unit Refusal) (s : Result A Refusal) (a : A) → r ≡ Ok tt → s ≡ Ok a → r then s ≡ Ok a
-then_pass r s a h k = grind arith
+numbers_pass : (l : Layout) → Headed l → numbered l ≡ Ok tt
+unfolding numbered
+numbers_pass l h = grind (arith, nat_tests)
 
-measured_pass : (l : Layout) → Lengths l → measured l ≡ Ok tt
+lengths_pass : (l : Layout) → Headed l → measured l ≡ Ok tt
 unfolding measured
-measured_pass l h =
-    then_pass _ _ tt (counted_pass _ 4 1 4096 l.instructions h.instructions) (
-    then_pass _ _ tt (matched_pass _ _ l.shapes h.shapes) (
-    then_pass _ _ tt (counted_pass _ 8 0 1024 l.nodes h.nodes) (
-    then_pass _ _ tt (counted_pass _ 4 0 1024 l.constants h.constants) (
-    matched_pass _ _ l.rows h.rows))))
+lengths_pass l h =
+    let a = counted_pass Instructions 4 1 4096 l.instructions (omega arith) h.instructions in
+    let b = matched_pass Shapes l.instructions.length l.shapes h.shapes in
+    let c = counted_pass Nodes 8 0 1024 l.nodes (omega arith) h.nodes in
+    let d = counted_pass Constants 4 0 1024 l.constants (omega arith) h.constants in
+    let e = matched_pass Rows l.instructions.length l.rows h.rows in
+    rw a (rw b (rw c (rw d e)))
 
 -- the instructions
 decoding_law : (m : Limits) (w : Word) → Decoded m w (decoding m w)
@@ -152,30 +132,6 @@ sized_says bytes h = grind (arith, nat_tests)
 
 sized_pass : (bytes : ℕ) → (48 ≤ bytes) × (bytes ≤ 65536) → sized bytes ≡ Ok tt
 sized_pass bytes h = grind (arith, nat_tests)
-
--- the header
-header_says : (l : Layout) → numbered l ≡ Ok tt → measured l ≡ Ok tt → Headed l
-header_says l h k =
-    let n = numbered_says l h in
-    let m = measured_says l k in
-    record {
-      maximum = n.maximum;
-      locals = n.locals;
-      zero = n.zero;
-      pairs = n.pairs;
-      instructions = m.instructions;
-      shapes = m.shapes;
-      nodes = m.nodes;
-      constants = m.constants;
-      rows = m.rows;
-    }
-
-numbers_pass : (l : Layout) → Headed l → numbered l ≡ Ok tt
-numbers_pass l h = numbered_pass l (record { maximum = h.maximum; locals = h.locals; zero = h.zero; pairs = h.pairs })
-
-lengths_pass : (l : Layout) → Headed l → measured l ≡ Ok tt
-lengths_pass l h =
-    measured_pass l (record { instructions = h.instructions; shapes = h.shapes; nodes = h.nodes; constants = h.constants; rows = h.rows })
 
 -- the number of each test's refusals
 unfoldable Numbered : ℕ → Result Unit Refusal → Type 0

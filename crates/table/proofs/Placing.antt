@@ -1,7 +1,8 @@
 -- What a passed test of the parts' places says.
 use Rattle.std.proofs.Common.{◌≡◌, ℕ, ◌≤◌, Ok, Result, arith}
 use Rattle.std.proofs.lemmas.Bool.Decides.{nat_tests}
-use Rattle.table.specs.Header.{◌then◌, ending, placed, placing}
+use Rattle.table.specs.Header.{ending, placed, placing}
+use Rattle.table.specs.Demands.{◌then◌}
 use Rattle.table.specs.declared.layout.Layout.{Layout}
 use Rattle.table.specs.declared.layout.Span.{Span}
 use Rattle.table.specs.declared.refusals.Part.{Part}

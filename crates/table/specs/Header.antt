@@ -1,5 +1,6 @@
 -- What load asks of a table before it reads the instructions, in the order in which it asks.
-use Rattle.std.specs.Prelude.{ℕ, ◌+◌, ◌*◌, ◌%◌, Bool, cond, not, ◌||◌, Ok, Err, Result, ◌==◌, nat_lt}
+use Rattle.std.specs.Prelude.{ℕ, ◌+◌, ◌/◌, ◌%◌, Bool, ◌&&◌, Result, ◌==◌, nat_le}
+use Rattle.table.specs.Demands.{◌then◌, demand}
 use Rattle.table.specs.declared.layout.Layout.{Layout}
 use Rattle.table.specs.declared.layout.Span.{Span}
 use Rattle.table.specs.declared.refusals.Field.{Field}
@@ -9,19 +10,13 @@ use Rattle.table.specs.declared.refusals.Part.TheVariants.{Instructions, Shapes,
 use Rattle.table.specs.declared.refusals.Refusal.{Refusal}
 use Rattle.table.specs.declared.refusals.Refusal.TheVariants.{Size, Begins, Ends, Number, Records, Uneven}
 
--- the first refusal counts: what comes next is asked only where the test before it was passed
-infixr 20 ◌then◌
-abbrev pub ◌then◌ : {A : Type 0} → Result Unit Refusal → Result A Refusal → Result A Refusal
-Ok u then next = next
-Err e then next = Err e
-
--- a test, and the refusal where it is not met
-abbrev pub unless : Bool → Refusal → Result Unit Refusal
-unless fails e = cond fails (Err e) (Ok tt)
+-- from least to most
+abbrev pub within : ℕ → ℕ → ℕ → Bool
+within least most n = nat_le least n && nat_le n most
 
 -- 48 to 65,536 bytes
 abbrev pub sized : ℕ → Result Unit Refusal
-sized bytes = unless (nat_lt bytes 48 || nat_lt 65536 bytes) (Size bytes)
+sized bytes = demand (within 48 65536 bytes) (Size bytes)
 
 -- one past a part's last byte
 abbrev pub ending : Span → ℕ
@@ -30,8 +25,8 @@ ending s = s.offset + s.length
 -- a part begins at the earliest byte or after it, and ends within the table
 abbrev pub placed : Part → ℕ → ℕ → Span → Result Unit Refusal
 placed part earliest bytes s =
-    unless (nat_lt s.offset earliest) (Begins part s.offset earliest) then
-    unless (nat_lt bytes (ending s)) (Ends part (ending s) bytes)
+    demand (nat_le earliest s.offset) (Begins part s.offset earliest) then
+    demand (nat_le (ending s) bytes) (Ends part (ending s) bytes)
 
 -- each part after its forerunner, the first after the header's 48 bytes
 unfoldable pub placing : ℕ → Layout → Result Unit Refusal
@@ -44,7 +39,7 @@ placing bytes l =
 
 -- a header number from least to most
 abbrev pub ranged : Field → ℕ → ℕ → ℕ → Result Unit Refusal
-ranged field least most found = unless (nat_lt found least || nat_lt most found) (Number field found)
+ranged field least most found = demand (within least most found) (Number field found)
 
 -- maximum depth 1 to 256, locals 0 to 64, a zero, and five pairs
 unfoldable pub numbered : Layout → Result Unit Refusal
@@ -56,12 +51,11 @@ numbered l =
 
 -- a part of whole records, from least to most of them
 abbrev pub counted : Part → ℕ → ℕ → ℕ → Span → Result Unit Refusal
-counted part size least most s =
-    unless (not (s.length % size == 0) || (nat_lt s.length (size * least) || nat_lt (size * most) s.length)) (Records part s.length)
+counted part size least most s = demand (s.length % size == 0 && within least most (s.length / size)) (Records part s.length)
 
 -- a part as long as expected
 abbrev pub matched : Part → ℕ → Span → Result Unit Refusal
-matched part expected s = unless (not (s.length == expected)) (Uneven part s.length expected)
+matched part expected s = demand (s.length == expected) (Uneven part s.length expected)
 
 -- 1 to 4,096 instructions, at most 1,024 nodes and constants, and one shape and one row for each instruction
 unfoldable pub measured : Layout → Result Unit Refusal

@@ -1,14 +1,24 @@
-use Rattle.std.specs.Prelude.{◌≡◌, ℕ, ◌<◌, ◌≤◌, Bool, cond, ◌&&◌, Some, None, Option, ◌==◌, nat_le, nat_lt}
+use Rattle.std.specs.Prelude.{◌≡◌, ℕ, ◌<◌, ◌≤◌, Bool, cond, ◌&&◌, Some, None, MatchResult, Option, Result, ◌==◌, nat_le, nat_lt}
 use Rattle.table.specs.declared.instructions.Word.{Word}
 use Rattle.table.specs.declared.instructions.Limits.{Limits}
 use Rattle.table.specs.declared.instructions.RaiseKind.{RaiseKind}
 use Rattle.table.specs.declared.instructions.RaiseKind.TheVariants.{Reraise}
 use Rattle.table.specs.declared.instructions.RaiseKind.TheVariants as kind
+use Rattle.table.specs.declared.instructions.UnknownRaise.{UnknownRaise}
 use Rattle.table.specs.declared.instructions.Instruction.{Instruction}
 use Rattle.table.specs.declared.instructions.Instruction.TheVariants.{LoadConst, LoadFast, StoreFast, Pop, Reverse, CallFunctionPositional, GetIter, ForIter, Jump, JumpIfTrue, JumpIfFalse, SetupLoop, SetupExcept, SetupFinally, EnterFinally, EndFinally, SetupWith, WithCleanupStart, WithCleanupFinish, PopBlock, PopException, Raise, Break, Continue, ReturnValue, ReturnConst, YieldValue, YieldFrom}
 
 abbrev pub raise_kind : ℕ → RaiseKind
 raise_kind x = cond (x == 0) Reraise kind.Raise
+
+-- the number of a raise's kind
+abbrev pub raise_number : RaiseKind → ℕ
+raise_number Reraise = 0
+raise_number kind.Raise = 1
+
+-- the kind of a byte, whose number is that byte, or an error with a byte that is no kind's number
+abbrev pub RaiseKindOf : ℕ → Result RaiseKind UnknownRaise → Type 0
+RaiseKindOf byte r = MatchResult r (λ k. (k ≡ raise_kind byte) × (raise_number k ≡ byte)) (λ e. (e.0 ≡ byte) × (1 < byte))
 
 -- no operand is used: both are 0
 abbrev pub bare : Word → Bool
@@ -66,11 +76,6 @@ decoding m w = listed m w
 -- an opcode with its operands
 abbrev pub word : ℕ → ℕ → ℕ → Word
 word opcode x y = record { opcode = opcode; x = x; y = y }
-
--- the number of a raise's kind
-abbrev pub raise_number : RaiseKind → ℕ
-raise_number Reraise = 0
-raise_number kind.Raise = 1
 
 -- the word that encodes an instruction: unused operands are 0
 abbrev pub encoding : Instruction → Word

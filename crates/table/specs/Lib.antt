@@ -1,11 +1,14 @@
+pub mod Demands
 pub mod Fields
 pub mod Header
 pub mod Instructions
 pub mod Lawful
 pub mod Layout
 pub mod Loading
+pub mod Names
 pub mod Parts
 pub mod Reading
 pub mod Records
 pub mod Refusals
 pub mod Tables
+pub mod Words

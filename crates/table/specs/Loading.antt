@@ -1,10 +1,11 @@
 -- What load answers, as a value over the bytes.
 use Rattle.std.specs.Prelude.{ℕ, zero, suc, ◌+◌, cond, List, length, is_some, Ok, Err, Result}
-use Rattle.table.specs.Header.{◌then◌, measured, numbered, placing, sized}
+use Rattle.table.specs.Header.{measured, numbered, placing, sized}
 use Rattle.table.specs.Instructions.{decoding}
 use Rattle.table.specs.Layout.{layout_of}
 use Rattle.table.specs.Parts.{Parts, parts_of}
 use Rattle.table.specs.Reading.{instruction_count, limits_of, word_at}
+use Rattle.table.specs.Demands.{◌then◌}
 use Rattle.table.specs.declared.refusals.Refusal.{Refusal}
 use Rattle.table.specs.declared.refusals.Refusal.TheVariants.{Instruction}
 

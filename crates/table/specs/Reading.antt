@@ -1,5 +1,5 @@
 -- What the readers of a table answer: each by its part. An index past the end gets none.
-use Rattle.std.specs.Prelude.{ℕ, ◌-◌, ◌*◌, ◌/◌, Bool, cond, ◌&&◌, List, length, Some, None, Option, nat_le, nat_lt}
+use Rattle.std.specs.Prelude.{ℕ, zero, suc, ◌*◌, ◌/◌, cond, List, length, Some, None, Option, nat_lt}
 use Rattle.table.specs.Fields.{u32_at}
 use Rattle.table.specs.Instructions.{decoding}
 use Rattle.table.specs.Parts.{Parts}
@@ -27,9 +27,9 @@ constant_count t = records 4 t.constants
 abbrev pub limits_of : Parts → Limits
 limits_of t = record { instructions = instruction_count t; constants = constant_count t; locals = t.locals }
 
--- the value, where the test is met
-abbrev pub given : {A : Type 0} → Bool → A → Option A
-given there x = cond there (Some x) None
+-- record i of a part, which is read from its place on, or none past the end
+abbrev pub record_at : {A : Type 0} → ℕ → (List ℕ → ℕ → A) → List ℕ → ℕ → Option A
+record_at size from part i = cond (nat_lt i (records size part)) (Some (from part (size * i))) None
 
 abbrev pub word_at : Parts → ℕ → Word
 word_at t i = word_from t.instructions (4 * i)
@@ -38,14 +38,15 @@ unfoldable pub instruction_at : Parts → ℕ → Option Instruction
 instruction_at t i = cond (nat_lt i (instruction_count t)) (decoding (limits_of t) (word_at t i)) None
 
 unfoldable pub shape_at : Parts → ℕ → Option Shape
-shape_at t i = given (nat_lt i (records 4 t.shapes)) (shape_from t.shapes (4 * i))
+shape_at t i = record_at 4 shape_from t.shapes i
 
 -- nodes count from 1
 unfoldable pub node_at : Parts → ℕ → Option Node
-node_at t k = given (nat_le 1 k && nat_le k (node_count t)) (node_from t.nodes (8 * (k - 1)))
+node_at t zero = None
+node_at t (suc i) = record_at 8 node_from t.nodes i
 
 abbrev pub constant_at : Parts → ℕ → Option ℕ
-constant_at t i = given (nat_lt i (constant_count t)) (u32_at t.constants (4 * i))
+constant_at t i = record_at 4 u32_at t.constants i
 
 abbrev pub row_at : Parts → ℕ → Option ℕ
-row_at t i = given (nat_lt i (records 4 t.rows)) (u32_at t.rows (4 * i))
+row_at t i = record_at 4 u32_at t.rows i

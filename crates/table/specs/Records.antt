@@ -25,6 +25,15 @@ node_kind k =
     cond (k == 5) ExceptHandler (
     Unknown k)))))
 
+-- the byte that stands for a kind
+abbrev pub kind_byte : NodeKind → ℕ
+kind_byte Loop = 1
+kind_byte TryExcept = 2
+kind_byte Finally = 3
+kind_byte FinallyHandler = 4
+kind_byte ExceptHandler = 5
+kind_byte (Unknown byte) = byte
+
 -- a node: kind and end, then parent, level and handler
 abbrev pub node_from : List ℕ → ℕ → Node
 node_from b i = record {

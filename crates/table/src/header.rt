@@ -1,17 +1,18 @@
 // What load asks of the header, in its order: the size, the parts' places, the numbers, the parts' lengths.
-ghost use Rattle.std.specs.Prelude.{◌≡◌, ◌*◌, ◌≤◌};
+ghost use Rattle.std.specs.Prelude.{◌≡◌};
 ghost use Rattle.table.specs.Header.{counted, ending, matched, measured, numbered, placed, placing, ranged, sized};
 
+use crate::demands::demand;
+use crate::fields::Record;
+use crate::instructions::Word;
 use crate::layout::{Layout, Span};
+use crate::records::Node;
 use crate::refusals::{Field, Part, Refusal};
 
 pub fn sized(bytes: usize) -> Result<(), Refusal>
     ensures { result ≡ sized bytes }
 {
-    if bytes < 48 || bytes > 65_536 {
-        return Err(Refusal::Size { bytes });
-    }
-    Ok(())
+    demand((48..=65_536).contains(&bytes), Refusal::Size { bytes })
 }
 
 impl Span {
@@ -26,60 +27,59 @@ impl Span {
         ensures { result ≡ placed part earliest bytes self }
     {
         let offset = self.offset as usize;
-        if offset < earliest {
-            return Err(Refusal::Begins {
+        demand(
+            earliest <= offset,
+            Refusal::Begins {
                 part,
                 offset,
                 earliest,
-            });
-        }
+            },
+        )?;
         let end = self.end();
-        if bytes < end {
-            return Err(Refusal::Ends { part, end, bytes });
-        }
-        Ok(())
+        demand(end <= bytes, Refusal::Ends { part, end, bytes })
     }
 
-    // From `least` to `most` records of `size` bytes each, and nothing besides.
-    fn counted(self, part: Part, size: u32, least: u32, most: u32) -> Result<(), Refusal>
-        requires most_bound { size * most ≤ 65536 }
-        requires least_bound { size * least ≤ 65536 }
-        requires le_size { 1 ≤ size }
-        ensures { result ≡ counted part size least most self }
+    // From `least` to `most` records, and nothing besides.
+    fn counted<R: Record>(self, part: Part, least: usize, most: usize) -> Result<(), Refusal>
+        ensures { result ≡ counted part R.SIZE least most self }
     {
-        let length = self.length;
-        if length % size != 0 || length < size * least || size * most < length {
-            return Err(Refusal::Records { part, length });
-        }
-        Ok(())
+        let length = self.length as usize;
+        demand(
+            length % R::SIZE == 0 && (least..=most).contains(&(length / R::SIZE)),
+            Refusal::Records {
+                part,
+                length: self.length,
+            },
+        )
     }
 
     fn matched(self, part: Part, expected: u32) -> Result<(), Refusal>
         ensures { result ≡ matched part expected self }
     {
         let length = self.length;
-        if length != expected {
-            return Err(Refusal::Uneven {
+        demand(
+            length == expected,
+            Refusal::Uneven {
                 part,
                 length,
                 expected,
-            });
-        }
-        Ok(())
+            },
+        )
     }
 }
 
 fn ranged(field: Field, least: u16, most: u16, found: u16) -> Result<(), Refusal>
     ensures { result ≡ ranged field least most found }
 {
-    if found < least || most < found {
-        return Err(Refusal::Number { field, found });
-    }
-    Ok(())
+    demand(
+        (least..=most).contains(&found),
+        Refusal::Number { field, found },
+    )
 }
 
 impl Layout {
     // Each part begins at or after its forerunner's end, the first at or after byte 48, and ends within the table.
+    #[tactic(auto, unfolding(crate::specs::Header::placing))]
     pub fn placed(self, bytes: usize) -> Result<(), Refusal>
         ensures { result ≡ placing bytes self }
     {
@@ -92,6 +92,7 @@ impl Layout {
         self.rows.placed(Part::Rows, self.constants.end(), bytes)
     }
 
+    #[tactic(auto, unfolding(crate::specs::Header::numbered))]
     pub fn numbered(self) -> Result<(), Refusal>
         ensures { result ≡ numbered self }
     {
@@ -101,13 +102,15 @@ impl Layout {
         ranged(Field::PairCount, 5, 5, self.pairs)
     }
 
+    #[tactic(auto, unfolding(crate::specs::Header::measured))]
     pub fn measured(self) -> Result<(), Refusal>
         ensures { result ≡ measured self }
     {
-        self.instructions.counted(Part::Instructions, 4, 1, 4096)?;
+        self.instructions
+            .counted::<Word>(Part::Instructions, 1, 4096)?;
         self.shapes.matched(Part::Shapes, self.instructions.length)?;
-        self.nodes.counted(Part::Nodes, 8, 0, 1024)?;
-        self.constants.counted(Part::Constants, 4, 0, 1024)?;
+        self.nodes.counted::<Node>(Part::Nodes, 0, 1024)?;
+        self.constants.counted::<u32>(Part::Constants, 0, 1024)?;
         self.rows.matched(Part::Rows, self.instructions.length)
     }
 }

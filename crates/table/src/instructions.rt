@@ -1,8 +1,9 @@
 // The instructions, and the 4-byte words that encode them.
 ghost use Rattle.std.specs.Prelude.{◌≡◌};
-ghost use Rattle.table.specs.Instructions.{Decoded, bare, decoding, encoding, raise_number, flag, listed, raise_kind, under, word};
+ghost use Rattle.table.specs.Instructions.{Decoded, RaiseKindOf, bare, decoding, encoding, flag, listed, under, word};
 
 // An instruction as it stands in the bytes.
+// Kept: the opcode is a number here, since any byte can stand there; `decode` gives the enum.
 #[derive(Clone, Copy, Debug, PartialEq, Eq)]
 pub struct Word {
     pub opcode: u8,
@@ -12,8 +13,8 @@ pub struct Word {
 
 #[derive(Clone, Copy, Debug, PartialEq, Eq)]
 pub enum RaiseKind {
-    Reraise,
-    Raise,
+    Reraise = 0,
+    Raise = 1,
 }
 
 #[derive(Clone, Copy, Debug, PartialEq, Eq)]
@@ -32,6 +33,7 @@ pub enum Instruction {
     SetupLoop,
     SetupExcept { handler: u16 },
     SetupFinally { handler: u16 },
+    // Kept: a number, as the end of the node that it is held against.
     EnterFinally { end: u8 },
     EndFinally,
     SetupWith { end: u16 },
@@ -56,13 +58,21 @@ pub struct Limits {
     pub locals: usize,
 }
 
-fn raise_kind(x: u8) -> RaiseKind
-    ensures { result ≡ raise_kind x }
-{
-    if x == 0 {
-        RaiseKind::Reraise
-    } else {
-        RaiseKind::Raise
+// A byte that stands for no kind of raise.
+#[derive(Clone, Copy, Debug, PartialEq, Eq)]
+pub struct UnknownRaise(pub u8);
+
+impl TryFrom<u8> for RaiseKind {
+    type Error = UnknownRaise;
+
+    ghost try_from_gives = { RaiseKindOf };
+
+    fn try_from(byte: u8) -> Result<RaiseKind, UnknownRaise> {
+        match byte {
+            0 => Ok(RaiseKind::Reraise),
+            1 => Ok(RaiseKind::Raise),
+            _ => Err(UnknownRaise(byte)),
+        }
     }
 }
 
@@ -121,8 +131,8 @@ impl Word {
             31 if self.bare() => Some(Instruction::WithCleanupFinish),
             32 if self.bare() => Some(Instruction::PopBlock),
             33 if self.bare() => Some(Instruction::PopException),
-            34 if self.flag() => Some(Instruction::Raise {
-                kind: raise_kind(self.x),
+            34 if self.y == 0 => Some(Instruction::Raise {
+                kind: RaiseKind::try_from(self.x).ok()?,
             }),
             35 if self.below(limits.instructions) => Some(Instruction::Break { target: y }),
             36 if self.below(limits.instructions) => Some(Instruction::Continue { target: y }),
@@ -135,22 +145,12 @@ impl Word {
     }
 
     // The instruction of this word in a table of these limits; none where there is no such opcode or an operand is out of its range.
+    #[tactic(auto, using(crate::proofs::Decoded::decoded), unfolding(crate::specs::Instructions::decoding))]
     pub fn decode(self, limits: Limits) -> Option<Instruction>
         ensures value { result ≡ decoding limits self }
         ensures law { Decoded limits self result }
     {
         self.listed(limits)
-    }
-}
-
-impl RaiseKind {
-    fn number(self) -> u8
-        ensures { result ≡ raise_number self }
-    {
-        match self {
-            RaiseKind::Reraise => 0,
-            RaiseKind::Raise => 1,
-        }
     }
 }
 
@@ -181,7 +181,7 @@ impl Instruction {
             Instruction::WithCleanupFinish => Word::new(31, 0, 0),
             Instruction::PopBlock => Word::new(32, 0, 0),
             Instruction::PopException => Word::new(33, 0, 0),
-            Instruction::Raise { kind } => Word::new(34, kind.number(), 0),
+            Instruction::Raise { kind } => Word::new(34, kind as u8, 0),
             Instruction::Break { target } => Word::new(35, 0, target),
             Instruction::Continue { target } => Word::new(36, 0, target),
             Instruction::ReturnValue => Word::new(37, 0, 0),

@@ -1,7 +1,8 @@
-ghost use Rattle.std.specs.Prelude.{◌≡◌, ◌+◌, ◌≤◌, length};
+ghost use Rattle.std.specs.Prelude.{◌≡◌, ◌≤◌, length};
+ghost use Rattle.std.proofs.Common.{rules};
 ghost use Rattle.table.specs.Layout.{layout_of, span_at};
 
-use crate::fields::{u16_at, u32_at};
+use crate::fields::Record;
 
 // A part's place in the bytes, as its pair gives it.
 #[derive(Clone, Copy, Debug, PartialEq, Eq)]
@@ -24,31 +25,39 @@ pub struct Layout {
     pub rows: Span,
 }
 
-fn span_at(bytes: &[u8], at: usize) -> Span
-    requires { at + 8 ≤ length bytes.now }
-    ensures { result ≡ span_at bytes.now at }
-{
-    Span {
-        offset: u32_at(bytes, at),
-        length: u32_at(bytes, at + 4),
+impl Record for Span {
+    const SIZE: usize = 8;
+
+    ghost SIZE = { 8 };
+
+    ghost from = { span_at };
+
+    ghost sized = { Prim.search rules };
+
+    fn read(bytes: &[u8], at: usize) -> Span {
+        Span {
+            offset: u32::read(bytes, at),
+            length: u32::read(bytes, at + 4),
+        }
     }
 }
 
 impl Layout {
+    #[tactic(auto, unfolding(crate::specs::Layout::layout_of))]
     pub fn read(bytes: &[u8]) -> Layout
         requires { 48 ≤ length bytes.now }
         ensures { result ≡ layout_of bytes.now }
     {
         Layout {
-            maximum: u16_at(bytes, 0),
-            locals: u16_at(bytes, 2),
-            zero: u16_at(bytes, 4),
-            pairs: u16_at(bytes, 6),
-            instructions: span_at(bytes, 8),
-            shapes: span_at(bytes, 16),
-            nodes: span_at(bytes, 24),
-            constants: span_at(bytes, 32),
-            rows: span_at(bytes, 40),
+            maximum: u16::read(bytes, 0),
+            locals: u16::read(bytes, 2),
+            zero: u16::read(bytes, 4),
+            pairs: u16::read(bytes, 6),
+            instructions: Span::read(bytes, 8),
+            shapes: Span::read(bytes, 16),
+            nodes: Span::read(bytes, 24),
+            constants: Span::read(bytes, 32),
+            rows: Span::read(bytes, 40),
         }
     }
 }

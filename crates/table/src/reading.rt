@@ -3,9 +3,9 @@ ghost use Rattle.std.specs.Prelude.{◌≡◌};
 ghost use Rattle.table.specs.Reading.{constant_at, constant_count, instruction_at, instruction_count, limits_of, node_at, node_count, row_at, shape_at};
 ghost use Rattle.table.specs.Tables.{parts};
 
-use crate::fields::u32_at;
-use crate::instructions::{Instruction, Limits};
-use crate::records::{Node, Shape, node_at, shape_at, word_at};
+use crate::fields::{count, nth};
+use crate::instructions::{Instruction, Limits, Word};
+use crate::records::{Node, Shape};
 use crate::tables::Table;
 
 impl Table<'_> {
@@ -26,19 +26,19 @@ impl Table<'_> {
     pub fn instruction_count(&self) -> usize
         ensures { result ≡ instruction_count (parts self.now) }
     {
-        self.instructions.len() / 4
+        count::<Word>(self.instructions)
     }
 
     pub fn node_count(&self) -> usize
         ensures { result ≡ node_count (parts self.now) }
     {
-        self.nodes.len() / 8
+        count::<Node>(self.nodes)
     }
 
     pub fn constant_count(&self) -> usize
         ensures { result ≡ constant_count (parts self.now) }
     {
-        self.constants.len() / 4
+        count::<u32>(self.constants)
     }
 
     pub fn limits(&self) -> Limits
@@ -51,49 +51,37 @@ impl Table<'_> {
         }
     }
 
+    #[tactic(auto, unfolding(crate::specs::Reading::instruction_at))]
     pub fn instruction(&self, i: usize) -> Option<Instruction>
         ensures { result ≡ instruction_at (parts self.now) i }
     {
-        if i >= self.instruction_count() {
-            return None;
-        }
-        word_at(self.instructions, 4 * i).decode(self.limits())
+        nth::<Word>(self.instructions, i)?.decode(self.limits())
     }
 
+    #[tactic(auto, unfolding(crate::specs::Reading::shape_at))]
     pub fn shape(&self, i: usize) -> Option<Shape>
         ensures { result ≡ shape_at (parts self.now) i }
     {
-        if i >= self.shapes.len() / 4 {
-            return None;
-        }
-        Some(shape_at(self.shapes, 4 * i))
+        nth(self.shapes, i)
     }
 
     // Nodes count from 1.
+    #[tactic(auto, unfolding(crate::specs::Reading::node_at))]
     pub fn node(&self, number: usize) -> Option<Node>
         ensures { result ≡ node_at (parts self.now) number }
     {
-        if number < 1 || number > self.node_count() {
-            return None;
-        }
-        Some(node_at(self.nodes, 8 * (number - 1)))
+        nth(self.nodes, number.checked_sub(1)?)
     }
 
     pub fn constant(&self, i: usize) -> Option<u32>
         ensures { result ≡ constant_at (parts self.now) i }
     {
-        if i >= self.constant_count() {
-            return None;
-        }
-        Some(u32_at(self.constants, 4 * i))
+        nth(self.constants, i)
     }
 
     pub fn row(&self, i: usize) -> Option<u32>
         ensures { result ≡ row_at (parts self.now) i }
     {
-        if i >= self.rows.len() / 4 {
-            return None;
-        }
-        Some(u32_at(self.rows, 4 * i))
+        nth(self.rows, i)
     }
 }

@@ -1,11 +1,10 @@
 -- The check's answer is the first broken place, or there is none.
-use Rattle.std.proofs.Common.{◌≡◌, ℕ, zero, suc, ◌+◌, ◌<◌, ◌≤◌, Ok, Err, Result, sym, refl, subst, inl, inr, ⊎_elim, arith}
-use Rattle.std.proofs.lemmas.Bool.{cases_eq}
+use Rattle.std.proofs.Common.{◌≡◌, ℕ, zero, suc, ◌+◌, ◌<◌, ◌≤◌, Ok, Err, Result, sym, refl, subst, inl, inr, arith}
 use Rattle.table_check.specs.Checking.{all_instructions, all_nodes, checking, in_turn, instruction_kept, node_kept, placing}
 use Rattle.rules.specs.NodeRules.{NodeRules}
 use Rattle.table_check.specs.Nodes.{checking_node}
 use Rattle.table_check.specs.Passed.{Checked}
-use Rattle.rules.specs.Rule.{◌then◌}
+use Rattle.table.specs.Demands.{◌then◌}
 use Rattle.rules.specs.ShapeRules.{ShapeRules}
 use Rattle.table_check.specs.Shapes.{checking_instruction}
 use Rattle.table_check.specs.declared.broken.Broken.{Broken}
@@ -24,7 +23,7 @@ Tried place P i (Err b) = ((rule : Rule) × (b ≡ place i rule)) × (P i → �
 
 tried : (place : ℕ → Rule → Broken) (P : ℕ → Type 0) (i : ℕ) (r : Result Unit Rule) → Says r (P i) → Tried place P i (placing (place i) r)
 tried place P i (Ok u) s = s.0 refl
-tried place P i (Err rule) s = ((rule, refl), λ p. let h = s.1 p in let z : ◌≡◌ {A = ℕ} 0 1 = cc in omega arith)
+tried place P i (Err rule) s = ((rule, refl), λ p. grind (arith, s))
 
 -- n places from i on: P holds at all of them, or the first where it does not is named
 abbrev Walked : (ℕ → Rule → Broken) → (ℕ → Type 0) → ℕ → ℕ → Result Unit Broken → Type 0
@@ -32,13 +31,10 @@ Walked place P i n (Ok u) = (k : ℕ) → i ≤ k → k < i + n → P k
 Walked place P i n (Err b) =
     (j : ℕ) × (i ≤ j) × (j < i + n) × ((rule : Rule) × (b ≡ place j rule)) × (P j → ⊥) × ((k : ℕ) → i ≤ k → k < j → P k)
 
-walk_on : (place : ℕ → Rule → Broken) (P : ℕ → Type 0) (i n : ℕ) (r : Result Unit Broken) → P i → Walked place P (i + 1) n r → Walked place P i (suc n) r
-walk_on place P i n (Ok u) here w = λ k l h. ⊎_elim (λ e. subst P (sym e) here) (λ ne. w k (omega arith) (omega arith)) (cases_eq k i)
-walk_on place P i n (Err b) here w =
-    (w.0, omega arith, omega arith, w.3, w.4, λ k l h. ⊎_elim (λ e. subst P (sym e) here) (λ ne. w.5 k (omega arith) h) (cases_eq k i))
-
 walk_step : (place : ℕ → Rule → Broken) (P : ℕ → Type 0) (i n : ℕ) (a r : Result Unit Broken) → Tried place P i a → Walked place P (i + 1) n r → Walked place P i (suc n) (a then r)
-walk_step place P i n (Ok u) r here w = walk_on place P i n r here w
+walk_step place P i n (Ok u) (Ok v) here w = λ k l h. let s = w k in grind (arith, here, s)
+walk_step place P i n (Ok u) (Err b) here w =
+    (w.0, omega arith, omega arith, w.3, w.4, λ k l h. let s = w.5 k in grind (arith, here, s))
 walk_step place P i n (Err b) r here w = (i, omega arith, omega arith, here.0, here.1, λ k l h. absurd (omega arith))
 
 walked : (place : ℕ → Rule → Broken) (P : ℕ → Type 0) (test : ℕ → Result Unit Broken) → ((i : ℕ) → Tried place P i (test i)) →

@@ -1,5 +1,5 @@
 -- What the tests tell: each came out true and its fact holds, or false and it does not.
-use Rattle.std.proofs.Common.{◌≡◌, ℕ, zero, suc, ◌<◌, Bool, true, false, cond, eqb, ◌⊎◌, ℤ, pos, negsuc, refl, inr, arith}
+use Rattle.std.proofs.Common.{◌≡◌, ℕ, zero, suc, Bool, true, false, ◌⊎◌, ℤ, pos, arith}
 use Rattle.std.proofs.lemmas.Bool.Decides.{nat_tests}
 use Rattle.rules.specs.Arrivals.{is_depth}
 use Rattle.rules.specs.Climbing.{within}
@@ -17,14 +17,9 @@ kind_tells a b = grind (arith, nat_tests)
 
 pub depth_tells : (d : ℕ) (z : ℤ) → Tells (is_depth d z) (pos d ≡ z)
 unfolding is_depth
-depth_tells d (pos n) = grind (arith, nat_tests)
-depth_tells d (negsuc n) = inr (refl, λ h. let z : ◌≡◌ {A = ℕ} 0 1 = cc in omega arith)
-
-within_more : (t : Parts) (n k : ℕ) → Tells (within t n (parent_of t k)) (Within t n (parent_of t k)) →
-    Tells (cond (eqb k 0) true (within t n (parent_of t k))) (0 < k → Within t n (parent_of t k))
-within_more t n k h = grind (arith, nat_tests)
+depth_tells d z = grind (arith, nat_tests)
 
 pub within_tells : (t : Parts) (n k : ℕ) → Tells (within t n k) (Within t n k)
 unfolding within Within
 within_tells t zero k = grind (arith, nat_tests)
-within_tells t (suc n) k = within_more t n k (within_tells t n (parent_of t k))
+within_tells t (suc n) k = let w = within_tells t n (parent_of t k) in grind (arith, nat_tests, w)

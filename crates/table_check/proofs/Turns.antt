@@ -2,7 +2,7 @@
 use Rattle.std.proofs.Common.{◌≡◌, ℕ, zero, suc, ◌+◌, ◌-◌, ◌<◌, Ok, Result, refl, arith}
 use native.Mathlib.Numerals.{unary_clauses}
 use Rattle.table_check.specs.Checking.{in_turn}
-use Rattle.rules.specs.Rule.{◌then◌}
+use Rattle.table.specs.Demands.{◌then◌}
 use Rattle.table_check.specs.declared.broken.Broken.{Broken}
 
 pub turn_none : (test : ℕ → Result Unit Broken) (i n : ℕ) → n ≡ 0 → in_turn test i n ≡ Ok tt
@@ -22,3 +22,5 @@ turn_on test n i k h =
     let u = turn_step test k (n - i) (omega arith) in
     let q : n - i - 1 ≡ n - (i + 1) = omega arith in
     cc
+
+pub ruleset turns = (turn_none, turn_on)

@@ -1,7 +1,7 @@
 -- What the check answers, as a value over the table: all nodes, then all instructions, each from the first on.
 use Rattle.std.specs.Prelude.{ℕ, zero, suc, ◌+◌, Ok, Err, Result}
 use Rattle.table_check.specs.Nodes.{checking_node}
-use Rattle.rules.specs.Rule.{◌then◌}
+use Rattle.table.specs.Demands.{◌then◌}
 use Rattle.table_check.specs.Shapes.{checking_instruction}
 use Rattle.table_check.specs.declared.broken.Broken.{Broken}
 use Rattle.table_check.specs.declared.broken.Broken.TheVariants.{Node, Instruction}

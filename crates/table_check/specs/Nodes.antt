@@ -1,11 +1,11 @@
 -- The check of a node: the rules in the order in which they are asked, each with the name that it is refused by.
 use Rattle.std.specs.Prelude.{ℕ, ◌+◌, Bool, true, false, ◌||◌, Ok, Result, ◌==◌, nat_le, nat_lt}
 use Rattle.rules.specs.Climbing.{within}
-use Rattle.rules.specs.Reading.{level_of, node_for, same_kind, shape_for}
-use Rattle.rules.specs.Rule.{◌then◌, demand}
+use Rattle.rules.specs.Reading.{level_of, node_for, shape_for, standing}
+use Rattle.table.specs.Demands.{◌then◌, demand}
+use Rattle.rules.specs.Subjects.{has_end, has_kind, has_level, has_parent}
 use Rattle.rules.specs.declared.rule.Rule.{Rule}
 use Rattle.rules.specs.declared.rule.Rule.TheVariants.{EndListed, HandlerDepth, HandlerExists, HandlerWithinMaximum, KnownKind, LevelFromParent, LevelWithinMaximum, NoHandler, NodesToBottom, ParentBelow}
-use Rattle.rules.specs.declared.rule.Rule.TheVariants as rule
 use Rattle.rules.specs.declared.rule.Whose.TheVariants as whose
 use Rattle.table.specs.Parts.{Parts}
 use Rattle.table.specs.Reading.{instruction_count}
@@ -61,15 +61,15 @@ handling t n =
 
 -- the node that stands where a node's handler begins
 abbrev pub handler_node : Parts → Node → Node
-handler_node t n = node_for t (shape_for t n.handler).node
+handler_node t n = standing t n.handler
 
 -- a handler begins with this depth, in a node of this kind that has the parent and the level of the node itself
 unfoldable pub handled : Parts → Node → ℕ → NodeKind → Result Unit Rule
 handled t n depth kind =
     demand ((shape_for t n.handler).depth == depth) (HandlerDepth depth (shape_for t n.handler).depth) then
-    demand (same_kind (handler_node t n).kind kind) (rule.Kind whose.Handler kind (handler_node t n).kind) then
-    demand ((handler_node t n).parent == n.parent) (rule.Parent whose.Handler n.parent (handler_node t n).parent) then
-    demand ((handler_node t n).level == n.level) (rule.Level whose.Handler n.level (handler_node t n).level)
+    has_kind whose.Handler (handler_node t n) kind then
+    has_parent whose.Handler (handler_node t n) n.parent then
+    has_level whose.Handler (handler_node t n) n.level
 
 -- a TryExcept's handler finds the exception's value above the level, in an ExceptHandler
 unfoldable pub except_handled : Parts → Node → Result Unit Rule
@@ -81,7 +81,7 @@ except_handled t n =
 unfoldable pub finally_handled : Parts → Node → Result Unit Rule
 finally_handled t n =
     handled t n n.level FinallyHandler then
-    demand ((handler_node t n).end == n.end) (rule.End whose.Handler n.end (handler_node t n).end)
+    has_end whose.Handler (handler_node t n) n.end
 
 abbrev pub handled_as : Parts → Node → NodeKind → Result Unit Rule
 handled_as t n Loop = Ok tt

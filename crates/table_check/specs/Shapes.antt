@@ -4,7 +4,7 @@ use Rattle.rules.specs.Arrivals.{arrives, child_end, child_handler, opens, own_e
 use Rattle.rules.specs.Climbing.{arriving, nearest}
 use Rattle.rules.specs.Effects.{depth_after, needs, takes}
 use Rattle.rules.specs.Reading.{level_of, node_for, parent_of, shape_for}
-use Rattle.rules.specs.Rule.{◌then◌, demand}
+use Rattle.table.specs.Demands.{◌then◌, demand}
 use Rattle.rules.specs.declared.rule.Rule.{Rule}
 use Rattle.rules.specs.declared.rule.Rule.TheVariants.{AboveParent, Decodes, DepthFromLevel, DepthWithinMaximum, LoopStands, NodeExists, Removable, TakesAboveLevel, ValuesNeeded}
 use Rattle.rules.specs.declared.rule.Way.TheVariants as way

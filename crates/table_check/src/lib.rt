@@ -9,3 +9,4 @@ pub mod broken;
 pub mod checking;
 mod nodes;
 mod shapes;
+mod sites;

@@ -5,7 +5,7 @@ use Rattle.table.specs.Tables.{parts}
 use Rattle.table_check.proofs.checking.all_nodes.Given as goal
 
 -- what is left to look at ends as the whole does
-abbrev pub invariant-loop-i : goal.invariant-loop-i
-invariant-loop-i l =
-    in_turn (node_kept (parts l.table)) (l.i + 1) (node_count (parts l.table) - l.i)
+abbrev pub invariant-loop-number : goal.invariant-loop-number
+invariant-loop-number l =
+    in_turn (node_kept (parts l.table)) l.number-counter (node_count (parts l.table) + 1 - l.number-counter)
     ≡ in_turn (node_kept (parts l.table)) 1 (node_count (parts l.table))

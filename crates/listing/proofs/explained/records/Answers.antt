@@ -1,8 +1,0 @@
-use Rattle.std.proofs.Common.{string_bytes}
-use Rattle.listing.specs.Explained.{records_text}
-use Rattle.listing.proofs.Made.{made_same}
-use Rattle.listing.proofs.explained.records.Goals as goal
-
-pub returns : goal.returns
-unfolding records_text
-returns c = made_same string_bytes _ _ _ c.format.ensures.ok (cc)
