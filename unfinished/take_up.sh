@@ -4,6 +4,10 @@
 set -eu
 [ -d unfinished/crates ] && [ -f crates.txt ] || { echo "take_up: not at the top of the repository" >&2; exit 2; }
 [ -z "$(git status --porcelain)" ] || { echo "take_up: there are changes that are not committed" >&2; exit 2; }
+git apply --check unfinished/below.patch 2>/dev/null || {
+    echo "take_up: the crates below have been rewritten since; begin from 9862425c498d35dff22615f1b740ddce425e7631 and bring the result over (unfinished/README.md)" >&2
+    exit 1
+}
 git apply unfinished/below.patch
 rm -rf crates/frame
 for crate in unfinished/crates/*; do
