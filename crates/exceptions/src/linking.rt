@@ -21,6 +21,7 @@ pub fn contextualize_exception<X: Exceptions>(x: &mut X, levels: &Levels, e: u16
     ensures chains { Chains X.limit levels.now e (X.world x.old) (X.world x.new) result }
     ensures implicit { Implicit-chaining X.limit levels.now e (X.world x.old) (X.world x.new) }
 {
+    x.vouch();
     let Some(c) = levels.topmost() else {
         return 0;
     };
@@ -38,6 +39,7 @@ fn follow<X: Exceptions>(x: &X, e: u16, c: u16) -> Walk
     requires { c < X.limit }
     ensures { result ≡ walk_from (X.world x.now).links e X.limit c }
 {
+    x.vouch();
     // Kept: a chain of iterators would have to carry each exception with the one that its link leads to, and prove that it ends.
     let mut at = c;
     let mut followed = 0;
@@ -62,6 +64,7 @@ fn strike<X: Exceptions>(x: &mut X, k: Option<u16>)
     requires { IfSome k (λ y. y < X.limit) }
     ensures { X.world x.new ≡ with_links (cutting (X.world x.old).links k) (X.world x.old) }
 {
+    x.vouch();
     if let Some(k) = k {
         x.set_context(k, None);
     }

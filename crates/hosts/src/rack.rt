@@ -35,9 +35,7 @@ impl Exceptions for Rack {
         self.links.set_context(e, c);
     }
 
-    ghost use Rattle.std.proofs.Common.{rules};
-
-    ghost lawful = { Prim.search rules };
+    fn vouch(&self) {}
 }
 
 impl Host for Rack {

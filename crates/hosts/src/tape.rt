@@ -61,9 +61,7 @@ impl<'a> Exceptions for Tape<'a> {
         self.links.set_context(e, c);
     }
 
-    ghost use Rattle.std.proofs.Common.{rules};
-
-    ghost lawful = { Prim.search rules };
+    fn vouch(&self) {}
 }
 
 impl<'a> Host for Tape<'a> {

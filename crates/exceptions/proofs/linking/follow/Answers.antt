@@ -3,20 +3,17 @@ use Rattle.exceptions.proofs.Walking.{going_from, going_few, going_on, going_fou
 use Rattle.exceptions.proofs.linking.follow.Goals as goal
 
 pub loop-next-init : goal.loop-next-init
-loop-next-init g c = going_from _ _ _ _ (g.met.X.Exceptions.lawful c.args.x.now).ringless (g.met.X.Exceptions.lawful c.args.x.now).within c.requires
+loop-next-init g c = going_from _ _ _ _ c.vouch.ensures.ringless c.vouch.ensures.within c.requires
 
 pub returns-then-next-e : goal.returns-then-next-e
 returns-then-next-e g c = going_found _ _ _ _ _ _ c.loop-next.invariant _ (sym c.in-Some.ensures) c.if-next-e.true
-
-pub overflow_add-followed : goal.overflow_add-followed
-overflow_add-followed g c = let law = g.met.X.Exceptions.lawful c.args.x.now in let most = law.most in let few = c.loop-next.invariant.few in omega arith
 
 pub loop-next-smaller : goal.loop-next-smaller
 loop-next-smaller g c = let few = going_few _ _ _ _ _ _ c.loop-next.invariant in omega arith
 
 pub loop-next-preserved : goal.loop-next-preserved
 loop-next-preserved g c =
-    going_on _ _ _ _ _ _ c.loop-next.invariant _ (g.met.X.Exceptions.lawful c.args.x.now).within (sym c.in-Some.ensures) c.if-next-e.false
+    going_on _ _ _ _ _ _ c.loop-next.invariant _ c.vouch.ensures.within (sym c.in-Some.ensures) c.if-next-e.false
 
 pub returns : goal.returns
 returns g c = going_ended _ _ _ _ _ _ c.loop-next.invariant (sym c.in_default.ensures)

@@ -6,5 +6,5 @@ pub set_context-requires : goal.set_context-requires
 set_context-requires g c = record {
   below = subst (λ (o : Option ℕ). IfSome o (λ y. y < g.X.Exceptions.limit)) c.in-Some.is c.requires;
   target = tt;
-  opens = cut_ringless _ _ (g.met.X.Exceptions.lawful c.args.x.now).ringless;
+  opens = cut_ringless _ _ c.vouch.ensures.ringless;
 }
