@@ -1,5 +1,5 @@
 // A broken rule in words: what was found and what was expected.
-ghost use Rattle.std.specs.Prelude.{Some};
+ghost use Rattle.std.specs.Prelude.{◌≡◌, Some};
 ghost use Rattle.rules.specs.Words.{rule_text, way_text, whose_text};
 
 use crate::rule::{Rule, Way, Whose};
@@ -10,11 +10,7 @@ impl fmt::Display for Way {
     ghost output = { λ w. Some (way_text w) };
 
     fn fmt<W: fmt::Write>(&self, f: &mut fmt::Formatter<W>) -> fmt::Result {
-        f.write_str(match self {
-            Way::Start => "it begins the table and",
-            Way::Next => "the next instruction",
-            Way::Target => "the target",
-        })
+        f.write_str(self.text())
     }
 }
 
@@ -22,11 +18,32 @@ impl fmt::Display for Whose {
     ghost output = { λ w. Some (whose_text w) };
 
     fn fmt<W: fmt::Write>(&self, f: &mut fmt::Formatter<W>) -> fmt::Result {
-        f.write_str(match self {
+        f.write_str(self.text())
+    }
+}
+
+impl Way {
+    // What a rule calls the way: a text, which cannot fail. The Display writes it. So too in Whose.
+    fn text(self) -> &'static str
+        ensures { result.now ≡ way_text self }
+    {
+        match self {
+            Way::Start => "it begins the table and",
+            Way::Next => "the next instruction",
+            Way::Target => "the target",
+        }
+    }
+}
+
+impl Whose {
+    fn text(self) -> &'static str
+        ensures { result.now ≡ whose_text self }
+    {
+        match self {
             Whose::Own => "its node",
             Whose::Child => "the next instruction's node",
             Whose::Handler => "the node at its handler",
-        })
+        }
     }
 }
 

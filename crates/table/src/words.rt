@@ -13,13 +13,7 @@ impl fmt::Display for Part {
     ghost output = { λ p. Some (part_name p) };
 
     fn fmt<W: fmt::Write>(&self, f: &mut fmt::Formatter<W>) -> fmt::Result {
-        f.write_str(match self {
-            Part::Instructions => "instructions",
-            Part::Shapes => "shapes",
-            Part::Nodes => "nodes",
-            Part::Constants => "constants",
-            Part::Rows => "rows",
-        })
+        f.write_str(self.name())
     }
 }
 
@@ -27,12 +21,7 @@ impl fmt::Display for Field {
     ghost output = { λ f. Some (field_name f) };
 
     fn fmt<W: fmt::Write>(&self, f: &mut fmt::Formatter<W>) -> fmt::Result {
-        f.write_str(match self {
-            Field::MaximumDepth => "maximum depth",
-            Field::Locals => "number of locals",
-            Field::Zero => "third header number",
-            Field::PairCount => "pair count",
-        })
+        f.write_str(self.name())
     }
 }
 
@@ -40,20 +29,26 @@ impl fmt::Display for NodeKind {
     ghost output = { λ k. Some (kind_name k) };
 
     fn fmt<W: fmt::Write>(&self, f: &mut fmt::Formatter<W>) -> fmt::Result {
-        f.write_str(match self {
-            NodeKind::Loop => "a Loop",
-            NodeKind::TryExcept => "a TryExcept",
-            NodeKind::Finally => "a Finally",
-            NodeKind::FinallyHandler => "a FinallyHandler",
-            NodeKind::ExceptHandler => "an ExceptHandler",
-            NodeKind::Unknown(_) => "no known block",
-        })
+        f.write_str(self.name())
     }
 }
 
 impl Part {
+    // What the part is called: a text, which cannot fail. The Display writes it. So too in Field and NodeKind.
+    fn name(self) -> &'static str
+        ensures { result.now ≡ part_name self }
+    {
+        match self {
+            Part::Instructions => "instructions",
+            Part::Shapes => "shapes",
+            Part::Nodes => "nodes",
+            Part::Constants => "constants",
+            Part::Rows => "rows",
+        }
+    }
+
     // The records that it may have.
-    // Kept: a text by a match, here and in Field, since a type has one Display, which is its name.
+    // Kept: a text by a match, as the range of a Field is, since a type has one Display, which is its name.
     fn records(self) -> &'static str
         ensures { result.now ≡ expected_records self }
     {
@@ -68,6 +63,17 @@ impl Part {
 }
 
 impl Field {
+    fn name(self) -> &'static str
+        ensures { result.now ≡ field_name self }
+    {
+        match self {
+            Field::MaximumDepth => "maximum depth",
+            Field::Locals => "number of locals",
+            Field::Zero => "third header number",
+            Field::PairCount => "pair count",
+        }
+    }
+
     fn range(self) -> &'static str
         ensures { result.now ≡ field_range self }
     {
@@ -76,6 +82,21 @@ impl Field {
             Field::Locals => "0 to 64",
             Field::Zero => "0",
             Field::PairCount => "5",
+        }
+    }
+}
+
+impl NodeKind {
+    fn name(self) -> &'static str
+        ensures { result.now ≡ kind_name self }
+    {
+        match self {
+            NodeKind::Loop => "a Loop",
+            NodeKind::TryExcept => "a TryExcept",
+            NodeKind::Finally => "a Finally",
+            NodeKind::FinallyHandler => "a FinallyHandler",
+            NodeKind::ExceptHandler => "an ExceptHandler",
+            NodeKind::Unknown(_) => "no known block",
         }
     }
 }
