@@ -18,8 +18,10 @@ pub fn answer_lines<R: BufRead + Drop, W: Write, F: Fn(&str) -> Result<String, A
 {
     for line in input.lines(heap) {
         let line = line?;
-        let said = answer(line.as_str())?;
-        writeln!(output, "{said}")?;
+        let mut said = answer(line.as_str())?;
+        // The answer and its line break go out in one write, so that lines of two programs into one pipe stay whole.
+        said.push_str("\n")?;
+        output.write_all(said.as_bytes())?;
     }
     Ok(())
 }
