@@ -64,11 +64,13 @@ impl<T: Copy + Default, const N: usize> FixedStack<T, N> {
         ensures told { result ≡ push_out N self.old }
         ensures left { self.new ≡ push_left N item self.old }
     {
-        if self.len == N {
+        // The length is held here, since it would be read again behind the write to the array.
+        let at = self.len;
+        if at == N {
             return Err(Full);
         }
-        self.items[self.len] = item;
-        self.len += 1;
+        self.items[at] = item;
+        self.len = at + 1;
         Ok(())
     }
 
@@ -77,9 +79,9 @@ impl<T: Copy + Default, const N: usize> FixedStack<T, N> {
         ensures told { result ≡ top_of self.old }
         ensures left { self.new ≡ rest self.old }
     {
-        let top = self.top()?;
-        self.len -= 1;
-        Some(top)
+        let at = self.len.checked_sub(1)?;
+        self.len = at;
+        Some(self.items[at])
     }
 
     pub fn top(&self) -> Option<T>
