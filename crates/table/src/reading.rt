@@ -65,12 +65,12 @@ impl Table<'_> {
         nth(self.shapes, i)
     }
 
-    // Nodes count from 1.
+    // Nodes count from 1; the number before 0 is past the end of every part.
     #[tactic(auto, unfolding(crate::specs::Reading::node_at))]
     pub fn node(&self, number: usize) -> Option<Node>
         ensures { result ≡ node_at (parts self.now) number }
     {
-        nth(self.nodes, number.checked_sub(1)?)
+        nth(self.nodes, number.wrapping_sub(1))
     }
 
     pub fn constant(&self, i: usize) -> Option<u32>

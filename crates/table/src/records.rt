@@ -15,14 +15,15 @@ pub struct Shape {
 }
 
 // The kind of block that a node declares; loading takes any byte, and the check refuses unknown ones.
+// Unknown stands first, so that each of the others has its byte's place.
 #[derive(Clone, Copy, Debug, PartialEq, Eq)]
 pub enum NodeKind {
+    Unknown(u8),
     Loop,
     TryExcept,
     Finally,
     FinallyHandler,
     ExceptHandler,
-    Unknown(u8),
 }
 
 // A block as the table declares it: the node below it (0 for none), the stack's length when it is put up,

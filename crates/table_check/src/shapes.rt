@@ -25,6 +25,7 @@ fn removable(kind: NodeKind) -> bool
     )
 }
 
+// Where `inline(always)` stands, a call would have the site laid out in memory first, which costs more than what it then does.
 impl Site<'_> {
     // The first instruction begins with an empty stack and no block.
     #[tactic(auto, unfolding(crate::specs::Shapes::starts))]
@@ -100,6 +101,7 @@ impl Site<'_> {
 
     // The next instruction keeps the node, with the depth that the effect leaves.
     #[tactic(auto, unfolding(crate::specs::Shapes::next))]
+    #[inline(always)]
     fn next(&self) -> Result<(), Rule>
         ensures { result ≡ next (parts self.now.table.now) self.now.at self.now.shape self.now.op }
     {
@@ -108,6 +110,7 @@ impl Site<'_> {
 
     // The target keeps the node, with the depth that the effect leaves.
     #[tactic(auto, unfolding(crate::specs::Shapes::jumps))]
+    #[inline(always)]
     fn jumps(&self, target: u16) -> Result<(), Rule>
         ensures { result ≡ jumps (parts self.now.table.now) self.now.shape self.now.op target }
     {
@@ -142,6 +145,7 @@ impl Site<'_> {
     }
 
     // The next instruction stands in a child node of this kind, with the depth that the effect leaves.
+    #[inline(always)]
     fn opens(&self, kind: NodeKind) -> Result<(), Rule>
         ensures { result ≡ opens (parts self.now.table.now) self.now.at self.now.shape kind (depth_after self.now.shape.depth self.now.op) }
     {
@@ -171,6 +175,7 @@ impl Site<'_> {
 
     // SetupFinally puts up a Finally of end 0, SetupWith one of end 1.
     #[tactic(auto, unfolding(crate::specs::Shapes::sets_up_finally))]
+    #[inline(always)]
     fn setup_finally(&self, end: u8, handler: u16) -> Result<(), Rule>
         ensures { result ≡ sets_up_finally (parts self.now.table.now) self.now.at self.now.shape self.now.op end handler }
     {
