@@ -42,7 +42,7 @@ pub struct CloseRefused {
     pub token: LevelToken,
 }
 
-#[tactic(auto, using(crate::proofs::Standing::steps), unfolding(crate::specs::Levels::HeldBelow, crate::specs::Levels::level_count, crate::specs::Levels::current_left, crate::specs::Levels::open_out, crate::specs::Levels::open_left, crate::specs::Levels::Opened, crate::specs::Levels::close_out, crate::specs::Levels::close_left, crate::specs::Levels::Closed))]
+#[tactic(auto, using(crate::proofs::Standing::steps), unfolding(crate::specs::Levels::HeldBelow, crate::specs::Levels::level_count, crate::specs::Levels::topmost_in, crate::specs::Levels::current_left, crate::specs::Levels::open_out, crate::specs::Levels::open_left, crate::specs::Levels::Opened, crate::specs::Levels::close_out, crate::specs::Levels::close_left, crate::specs::Levels::Closed))]
 impl Levels {
     pub fn new(exceptions: u16) -> Self
         ensures { result ≡ first_level exceptions }
@@ -91,11 +91,10 @@ impl Levels {
         ensures told { result ≡ topmost_of self.now }
         ensures below { IfSome result (λ e. e < self.now.exceptions) }
     {
-        self.lower
-            .items()
-            .iter()
-            .rev()
-            .fold(self.current, |held, below| held.or(*below))
+        if self.current.is_some() {
+            return self.current;
+        }
+        self.lower.items().iter().rev().find_map(|held| *held)
     }
 
     pub fn set_current(&mut self, e: Option<u16>)
