@@ -91,6 +91,7 @@ impl Levels {
         ensures told { result ≡ topmost_of self.now }
         ensures below { IfSome result (λ e. e < self.now.exceptions) }
     {
+        // A test, and no `or_else`, whose closure would need a contract of its own.
         if self.current.is_some() {
             return self.current;
         }

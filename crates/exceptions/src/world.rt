@@ -31,7 +31,7 @@ pub trait Exceptions {
         ensures { world self.new ≡ relinking e c (world self.old) };
 
     // Does nothing, and says what always holds: there is no ring, and no exception at EXCEPTIONS or above.
-    // Kept: a law asks more of a host. In it a u8 is any number, and a part with a Model its value alone; a body can read the one and call the other.
+    // Kept: a law asks more of a host. In it a u8 is any number, and a part with a Model its value alone; a body can read the number, and call a method of the part.
     fn vouch(&self)
         ensures { Lawful limit (world self.now) };
 }

@@ -21,7 +21,7 @@ use Rattle.exceptions.specs.Questions.{
 use Rattle.exceptions.specs.World.{Meaning, World}
 use Rattle.exceptions.specs.Links.{tabled, unlinked}
 
--- a call raises the byte, an exception that is made or given is the byte, and every other answer is the first argument
+-- a call raises the byte, and an exception that is made or given is the byte; what is sent comes back, and the rest is told of the first argument
 abbrev pub echo_reply : ℕ → (q : Question) → AnswerTo q
 echo_reply byte Signal = Ok tt
 echo_reply byte (Truth v) = Ok (nat_lt 0 v)

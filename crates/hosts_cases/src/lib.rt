@@ -6,6 +6,7 @@
 // Their pages are docs/hosts.md and docs/links-and-levels.md.
 #![tactic(auto)]
 
+// Not for the tests alone: that such a host proves, and edits of it do not, is a case too.
 mod echo;
 #[cfg(test)]
 mod linking;

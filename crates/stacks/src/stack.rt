@@ -64,7 +64,7 @@ impl<T: Copy + Default, const N: usize> FixedStack<T, N> {
         ensures told { result ≡ push_out N self.old }
         ensures left { self.new ≡ push_left N item self.old }
     {
-        // The length is held here, since it would be read again behind the write to the array.
+        // A copy of the length, since `self.len` would be loaded again after the write to the array.
         let at = self.len;
         if at == N {
             return Err(Full);

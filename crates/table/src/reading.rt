@@ -65,7 +65,7 @@ impl Table<'_> {
         nth(self.shapes, i)
     }
 
-    // Nodes count from 1; the number before 0 is past the end of every part.
+    // Nodes count from 1. Number 0 wraps to the largest number, which is past the end of every part: one comparison refuses both.
     #[tactic(auto, unfolding(crate::specs::Reading::node_at))]
     pub fn node(&self, number: usize) -> Option<Node>
         ensures { result ≡ node_at (parts self.now) number }
