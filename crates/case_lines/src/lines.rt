@@ -19,8 +19,8 @@ pub fn answer_lines<R: BufRead + Drop, W: Write, F: Fn(&str) -> Result<String, A
     for line in input.lines(heap) {
         let line = line?;
         let mut said = answer(line.as_str())?;
-        // The answer and its line break go out in one write, so that lines of two programs into one pipe stay whole;
-        // only where there is no memory for the line break behind the answer they go out in two.
+        // The answer and its line break go out in one write: where two programs write into one pipe, Linux keeps a
+        // write of at most 4,096 bytes whole. Only where there is no memory for the line break do they go out in two.
         match said.push_str("\n") {
             Ok(()) => output.write_all(said.as_bytes())?,
             Err(_) => writeln!(output, "{said}")?,
